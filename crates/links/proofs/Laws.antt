@@ -1,0 +1,84 @@
+-- The pass over the links, which makes two searches at once, and what decides a table's judgment. Assumes nothing.
+use mathlib.Core.Path.{_≡_, sym, _∙_}
+use mathlib.Core.Logic.{_⊎_, inl, inr}
+use mathlib.Core.Bool.{true, false}
+use Prim.Native.Nat.{ℕ, _+_, _-_, _≤_, _<_}
+use native.Mathlib.Omega.{arith}
+use borrow.Author.Tests.{lt-ltb, le-ltb}
+use lib.Dec.{ltb}
+use lib.ListN.{length, getD}
+use Rattle.rules.specs.Columns.{Table}
+use Rattle.rules.specs.Refusals.{accepted, refused, wrongNodeCount, wrongRoot, wrongColumns, wrongEndsAt, wrongOrderAt, judgeLinks}
+use Rattle.rules.specs.Refusals.{judgeEach}
+use Rattle.rules.proofs.Search.{Seen, seen-none, seen-more, seen-here, one-seen, none-seen}
+
+-- ---- the pass
+
+-- The links before i have right ends. The first of them that starts below the one before it is fall; where there is
+-- none, fall is the number of links. Link i breaks the order where it starts below previous.
+pub record Passed (t : Table) (fall previous i : ℕ) : Type 0 where
+  pub within : i ≤ length (t .starts)
+  pub ends-right : Seen (wrongEndsAt t) (length (t .starts)) i (length (t .starts))
+  pub first-fall : Seen (wrongOrderAt t) (length (t .starts)) i fall
+  pub falls : ltb (getD (t .starts) i 0) previous ≡ wrongOrderAt t i
+
+pub passed-none : (t : Table) → Passed t (length (t .starts)) 0 0
+unfolding wrongOrderAt
+passed-none t =
+    let start = getD (t .starts) 0 0 in
+    record {
+      within = omega arith;
+      ends-right = seen-none (wrongEndsAt t) (length (t .starts));
+      first-fall = seen-none (wrongOrderAt t) (length (t .starts));
+      falls = le-ltb start 0 (omega arith) ∙ sym (le-ltb start start (omega arith));
+    }
+
+module _ {t : Table} {fall previous i : ℕ} (p : Passed t fall previous i) (l : i < length (t .starts)) where
+  pub passed-more : wrongEndsAt t i ≡ false → {next : ℕ} → Seen (wrongOrderAt t) (length (t .starts)) (i + 1) next
+      → Passed t next (getD (t .starts) i 0) (i + 1)
+  unfolding wrongOrderAt
+  passed-more right seen =
+      let back : (i + 1) - 1 ≡ i = omega arith in
+      record { within = omega arith; ends-right = seen-more (p .ends-right) (λ m. right); first-fall = seen; falls = rw back }
+
+  -- link i is the first that breaks the order
+  pub falls-here : fall ≡ length (t .starts) → getD (t .starts) i 0 < previous → Seen (wrongOrderAt t) (length (t .starts)) (i + 1) i
+  falls-here none m = seen-here (rw none at (p .first-fall)) l (sym (p .falls) ∙ lt-ltb (getD (t .starts) i 0) previous m)
+
+  -- link i keeps the order, or isn't the first that breaks it
+  pub falls-not-here : (previous ≤ getD (t .starts) i 0) ⊎ ¬ (fall ≡ length (t .starts))
+      → Seen (wrongOrderAt t) (length (t .starts)) (i + 1) fall
+  falls-not-here (inl m) = seen-more (p .first-fall) (λ k. sym (p .falls) ∙ le-ltb (getD (t .starts) i 0) previous m)
+  falls-not-here (inr some) = seen-more (p .first-fall) (λ k. absurd (omega (arith, p .first-fall .found (omega arith))))
+
+  pub ends-decide : wrongEndsAt t i ≡ true → refused 4 i ≡ judgeEach t
+  ends-decide wrong = rw (one-seen (seen-here (p .ends-right) l wrong) 4 l)
+
+-- after the last link
+module _ {t : Table} {fall previous i : ℕ} (p : Passed t fall previous i) (end : length (t .starts) ≤ i) where
+  pub order-decides : fall < length (t .starts) → refused 5 fall ≡ judgeEach t
+  order-decides l = rw (none-seen (p .ends-right) 4 end (omega arith), one-seen (p .first-fall) 5 l)
+
+  pub nothing-decides : length (t .starts) ≤ fall → accepted ≡ judgeEach t
+  nothing-decides l = rw (none-seen (p .ends-right) 4 end (omega arith), none-seen (p .first-fall) 5 end l)
+
+-- ---- the whole table
+
+module _ (t : Table) where
+  pub count-decides : wrongNodeCount t ≡ true → refused 1 0 ≡ judgeLinks t
+  unfolding judgeLinks
+  count-decides wrong = rw wrong
+
+  module _ (count-right : wrongNodeCount t ≡ false) where
+    pub root-decides : wrongRoot t ≡ true → refused 2 0 ≡ judgeLinks t
+    unfolding judgeLinks
+    root-decides wrong = rw (count-right, wrong)
+
+    module _ (root-right : wrongRoot t ≡ false) where
+      pub columns-decide : wrongColumns t ≡ true → refused 3 0 ≡ judgeLinks t
+      unfolding judgeLinks
+      columns-decide wrong = rw (count-right, root-right, wrong)
+
+      pub links-decide : wrongColumns t ≡ false → judgeEach t ≡ judgeLinks t
+      unfolding judgeLinks
+      links-decide columns-right = rw (count-right, root-right, columns-right)

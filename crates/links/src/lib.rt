@@ -1,0 +1,61 @@
+// Judging a table of links: refusals 1 to 5.
+ghost use mathlib.Core.Path.{_≡_};
+ghost use mathlib.Core.List.{[]};
+ghost use Prim.Native.Nat.{_≤_};
+ghost use lib.ListN.{length};
+ghost use Rattle.rules.specs.Answers.{told};
+ghost use Rattle.rules.specs.Columns.{mostLinks, table};
+ghost use Rattle.rules.specs.Refusals.{judgeEach, judgeLinks, wrongEnds};
+use rules::Answer;
+
+// The start or the end is no node, or the link leads from a node to itself.
+fn wrong_ends(nodes: usize, start: u16, end: u16) -> bool
+    ensures { λ r. ⌜ r ≡ wrongEnds nodes start end ⌝ }
+{
+    nodes <= start as usize || nodes <= end as usize || start == end
+}
+
+// One pass: the first link with wrong ends decides; a start below the one before it is remembered till the end.
+fn judge_each(nodes: usize, starts: &[u16], ends: &[u16]) -> Answer
+    requires { ⌜ (length (now starts) ≡ length (now ends)) × (length (now starts) ≤ mostLinks) ⌝ }
+    ensures { λ r. ⌜ told r ≡ judgeEach (table nodes 0 (now (starts .entry)) (now (ends .entry)) []) ⌝ }
+{
+    let links = starts.len();
+    // The first link that starts below the one before it; while there is none, the number of links.
+    let mut fall = links;
+    // Nothing is below 0, so link 0, with none before it, never counts as a fall.
+    let mut previous: u16 = 0;
+    let mut i: usize = 0;
+    while i < links {
+        let next = i + 1;
+        let start = starts[i];
+        if wrong_ends(nodes, start, ends[i]) {
+            return Answer::WrongEnds(i as u16);
+        }
+        if start < previous && fall == links {
+            fall = i;
+        }
+        previous = start;
+        i = next;
+    }
+    if fall < links {
+        return Answer::WrongOrder(fall as u16);
+    }
+    Answer::Accepted
+}
+
+// The smallest refusal number that applies, or acceptance, whatever is given.
+pub fn judge_links(nodes: usize, root: usize, starts: &[u16], ends: &[u16], costs: &[u16]) -> Answer
+    ensures { λ r. ⌜ told r ≡ judgeLinks (table nodes root (now (starts .entry)) (now (ends .entry)) (now (costs .entry))) ⌝ }
+{
+    if nodes == 0 || 256 < nodes {
+        return Answer::WrongNodeCount;
+    }
+    if nodes <= root {
+        return Answer::WrongRoot;
+    }
+    if starts.len() != ends.len() || starts.len() != costs.len() || 4096 < starts.len() {
+        return Answer::WrongColumns;
+    }
+    judge_each(nodes, starts, ends)
+}

@@ -1,0 +1,12 @@
+-- What 01-scope.md says, as definitions, in reading order. Theorems about them stand in proofs/.
+pub mod Net
+pub mod Tree
+pub mod Keep
+pub mod Tests
+pub mod Columns
+pub mod Refusals
+pub mod Answers
+pub mod Jobs
+pub mod Demands
+pub mod Pier
+pub mod Sums

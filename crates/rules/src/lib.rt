@@ -1,0 +1,72 @@
+// What a job answers and what a batch holds. What they mean stands in specs/.
+ghost use mathlib.Core.Path.{_≡_};
+ghost use Rattle.rules.specs.Answers.{numberOf, valueOf};
+
+// Accepted, or one of the refusals of the scope's table, with the value that it carries.
+pub enum Answer {
+    Accepted,
+    WrongNodeCount,
+    WrongRoot,
+    WrongColumns,
+    // The first link whose start or end is no node, or that leads from a node to itself.
+    WrongEnds(u16),
+    // The first link whose start is below the one before it.
+    WrongOrder(u16),
+    // The smallest node that breaks a rule.
+    TreeUnfit(u16),
+    TooManyRows,
+    // The first bad row: it names no link, or a link of an earlier row.
+    RowNamesNoLink(u16),
+    RowNamesLinkAgain(u16),
+    AskedNoNode,
+    AskedUnreached,
+    ListTooShort,
+}
+
+// A row of a batch.
+pub struct Change {
+    pub link: u16,
+    pub cost: u16,
+}
+
+// The refusal's number in the scope's table, and 0 where nothing is refused.
+pub fn number(answer: Answer) -> u16
+    ensures { λ r. ⌜ r ≡ numberOf answer ⌝ }
+{
+    match answer {
+        Answer::Accepted => 0,
+        Answer::WrongNodeCount => 1,
+        Answer::WrongRoot => 2,
+        Answer::WrongColumns => 3,
+        Answer::WrongEnds(_) => 4,
+        Answer::WrongOrder(_) => 5,
+        Answer::TreeUnfit(_) => 6,
+        Answer::TooManyRows => 7,
+        Answer::RowNamesNoLink(_) => 8,
+        Answer::RowNamesLinkAgain(_) => 9,
+        Answer::AskedNoNode => 10,
+        Answer::AskedUnreached => 11,
+        Answer::ListTooShort => 12,
+    }
+}
+
+// What the refusal carries, and 0 where it carries nothing.
+pub fn value(answer: Answer) -> u16
+    ensures { λ r. ⌜ r ≡ valueOf answer ⌝ }
+{
+    match answer {
+        Answer::Accepted => 0,
+        Answer::WrongNodeCount => 0,
+        Answer::WrongRoot => 0,
+        Answer::WrongColumns => 0,
+        Answer::WrongEnds(link) => link,
+        Answer::WrongOrder(link) => link,
+        Answer::TreeUnfit(node) => node,
+        Answer::TooManyRows => 0,
+        Answer::RowNamesNoLink(row) => row,
+        Answer::RowNamesLinkAgain(row) => row,
+        Answer::AskedNoNode => 0,
+        Answer::AskedUnreached => 0,
+        Answer::ListTooShort => 0,
+    }
+}
