@@ -59,6 +59,10 @@ answer-back ListTooShort = refl
 pub told-once : {a b : Answer} → told a ≡ told b → a ≡ b
 told-once {a} {b} e = sym (answer-back a) ∙ ap answer-of e ∙ answer-back b
 
+-- an answer that is told as acceptance is Accepted
+pub told-accepted : (a : Answer) → told a ≡ accepted → a ≡ Accepted
+told-accepted a e = told-once e
+
 -- ---- trees
 
 pub tree-once : {r s : Tree} → Whole r → Whole s

@@ -1,0 +1,52 @@
+-- `fit::first_bad_row` meets its contract. The invariant: the rows passed are right. Assumes nothing.
+use Prim.Native.Nat.{_-_, _≤_}
+use mathlib.Core.Path.{sym, _∙_}
+use native.Mathlib.Omega.{arith}
+use Rattle.rules.specs.Columns.{mostNodes}
+use Rattle.fit.specs.Given.{net, rows}
+use Rattle.fit.specs.Passes.{RightBefore}
+use Rattle.fit.proofs.Laws.{right-none, right-more}
+use borrow.Author.Needs.{needs}
+use Rattle.fit.proofs.first_bad_row.Statement.{statement}
+use Rattle.fit.proofs.first_bad_row.Tie as tie
+
+abbrev Inv-loop : tie.InvT-loop
+Inv-loop nodes root starts ends costs dist parent first v₀ v = (v ≤ mostNodes) × RightBefore (net nodes root starts ends costs) (rows dist parent first) v
+
+abbrev μ-loop : tie.MeasureT-loop
+μ-loop nodes root starts ends costs dist parent first v₀ v = mostNodes - v
+
+loop-holds : tie.Need-loop-holds Inv-loop μ-loop
+loop-holds c = (search needs, right-none _ _)
+
+row-right-requires : tie.Need-row-right-requires Inv-loop μ-loop
+row-right-requires c κs = let entry = c .before .before .before .before .before .before .before .before in (entry .pre .0, entry .pre .1, c .loop-test .taken)
+
+add-v : tie.Need-add-v Inv-loop μ-loop
+add-v c = search needs
+
+loop-less : tie.Need-loop-less Inv-loop μ-loop
+loop-less c = search needs
+
+loop-again : tie.Need-loop-again Inv-loop μ-loop
+loop-again c = (search needs, right-more (c .before .before .before .loop .inv .1) (c .before .row-right .ensures) (c .if1 .taken))
+
+returns : tie.Need-returns Inv-loop μ-loop
+returns c = record { within = search needs; before = c .before .before .before .loop .inv .1; wrong = λ l. sym (c .before .row-right .ensures) ∙ c .if1 .left }
+
+returns-2 : tie.Need-returns-2 Inv-loop μ-loop
+returns-2 c = record { within = search needs; before = c .before .loop .inv .1; wrong = λ l. absurd (omega arith) }
+
+pub first-bad-row-spec : {M : Type 1} → statement M
+first-bad-row-spec =
+    tie.close
+    (tie.spec
+    Inv-loop
+    μ-loop
+    loop-holds
+    row-right-requires
+    add-v
+    loop-less
+    loop-again
+    returns
+    returns-2)
