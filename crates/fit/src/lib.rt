@@ -253,7 +253,28 @@ fn judge_tree(
     answer(row)
 }
 
-// The smallest refusal number that applies, or acceptance, whatever is given.
+// The smallest refusal number that applies, or acceptance, over arrays lent as slices.
+pub fn judge_lent(
+    nodes: usize,
+    root: usize,
+    starts: &[u16],
+    ends: &[u16],
+    costs: &[u16],
+    dist: &[u32],
+    parent: &[u16],
+    first: &[u16],
+) -> Answer
+    requires { ⌜ Whole (arrays (now dist) (now parent) (now first)) ⌝ }
+    ensures { λ r. ⌜ told r ≡ judgeTree (table nodes root (now (starts .entry)) (now (ends .entry)) (now (costs .entry))) (arrays (now (dist .entry)) (now (parent .entry)) (now (first .entry))) ⌝ }
+{
+    let links = links::judge_links(nodes, root, starts, ends, costs);
+    if rules::number(links) != 0 {
+        return links;
+    }
+    judge_tree(nodes, root, starts, ends, costs, dist, parent, first)
+}
+
+// The same, whatever is given.
 pub fn judge_rows<'a>(
     nodes: usize,
     root: usize,
@@ -266,9 +287,5 @@ pub fn judge_rows<'a>(
 ) -> Answer
     ensures { λ r. ⌜ told r ≡ judgeTree (table nodes root (now (starts .entry)) (now (ends .entry)) (now (costs .entry))) (arrays (now (dist .entry)) (now (parent .entry)) (now (first .entry))) ⌝ }
 {
-    let links = links::judge_links(nodes, root, starts, ends, costs);
-    if let Answer::Accepted = links {
-        return judge_tree(nodes, root, starts, ends, costs, dist, parent, first);
-    }
-    links
+    judge_lent(nodes, root, starts, ends, costs, dist, parent, first)
 }

@@ -1,12 +1,15 @@
 -- Tests and what they say; the first place that passes a test; induction on a size. Assumes nothing.
 use mathlib.Core.Path.{_≡_, refl, sym, ap, _∙_, subst}
 use mathlib.Core.Logic.{_⊎_, inl, inr, _≢_}
+use mathlib.Core.List.{List}
 use mathlib.Core.Bool.{Bool, true, false, _&&_, _||_, not}
 use Prim.Native.Nat.{ℕ, zero, suc, _+_, _≤_, _<_}
 use native.Mathlib.Omega.{arith}
 use native.Mathlib.Nat.{not-suc-le-zero, lt-suc-self}
 use native.Mathlib.Decide.{decLe, decLt, ℕ-discrete}
 use lib.Dec.{T, eqb, ltb, eqb→eq, eqb-refl, T-not, not-T}
+use lib.ListN.{length, getD}
+use lib.Seq.{drop-cons}
 use borrow.Author.Tests.{lt-ltb, le-ltb, ltb-true, ltb-false}
 use Rattle.rules.specs.Keep.{one, count}
 use Rattle.rules.specs.Tests.{pick, all, orNext, firstBelow}
@@ -120,6 +123,12 @@ first-is {p} {n} {f} h = at (decLt (firstBelow p n) f) (decLt f (firstBelow p n)
     at (yes l) d = absurd (first-unique p n (firstBelow p n) f (first-of p n) h l)
     at (no l) (yes m) = absurd (first-unique p n f (firstBelow p n) h (first-of p n) m)
     at (no l) (no m) = omega arith
+
+-- ---- lists
+
+-- below its length a list has an entry, whatever stands in for the others
+pub getD-any : (l : List ℕ) (i a b : ℕ) → i < length l → getD l i a ≡ getD l i b
+getD-any l i a b h = cc (drop-cons l i a h, drop-cons l i b h)
 
 -- ---- how many numbers below n pass
 

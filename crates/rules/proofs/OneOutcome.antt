@@ -13,7 +13,7 @@ use Rattle.rules.specs.Tree.{Rows, Path}
 use Rattle.rules.specs.Keep.{Fresh, Next}
 use Rattle.rules.specs.Columns.{Table, Proper, Tree, Whole, netOf, rowsOf, emptyTree, applied, after, unreached, noLink}
 use Rattle.rules.specs.Refusals.{Verdict, accepted, refused, _then_, judgeLinks, judgeTree, judgeBatch, judgeUpdate, judgeAsked}
-use Rattle.rules.specs.Answers.{told}
+use Rattle.rules.specs.Answers.{told, numberIn, numberOf}
 use Rattle.rules.specs.Jobs.{written, changedBelow, Built, built, not-built, Updated, updated, not-updated, Pathed, pathed, too-short, not-pathed}
 use Rattle.rules.specs.declared.Change.{Change}
 use Rattle.rules.specs.declared.Answer.{Answer}
@@ -62,6 +62,29 @@ told-once {a} {b} e = sym (answer-back a) ∙ ap answer-of e ∙ answer-back b
 -- an answer that is told as acceptance is Accepted
 pub told-accepted : (a : Answer) → told a ≡ accepted → a ≡ Accepted
 told-accepted a e = told-once e
+
+-- what the code learns from an answer's number
+number-zero : (a : Answer) → numberOf a ≡ 0 → told a ≡ accepted
+number-zero Accepted e = refl
+number-zero WrongNodeCount e = absurd (omega arith)
+number-zero WrongRoot e = absurd (omega arith)
+number-zero WrongColumns e = absurd (omega arith)
+number-zero (WrongEnds link) e = absurd (omega arith)
+number-zero (WrongOrder link) e = absurd (omega arith)
+number-zero (TreeUnfit node) e = absurd (omega arith)
+number-zero TooManyRows e = absurd (omega arith)
+number-zero (RowNamesNoLink row) e = absurd (omega arith)
+number-zero (RowNamesLinkAgain row) e = absurd (omega arith)
+number-zero AskedNoNode e = absurd (omega arith)
+number-zero AskedUnreached e = absurd (omega arith)
+number-zero ListTooShort e = absurd (omega arith)
+
+module _ (a : Answer) {number : ℕ} (is : number ≡ numberOf a) where
+  pub number-accepts : number ≡ 0 → told a ≡ accepted
+  number-accepts z = number-zero a (sym is ∙ z)
+
+  pub number-refuses : (number ≡ 0 → ⊥) → told a ≡ accepted → ⊥
+  number-refuses n e = n (is ∙ ap numberIn e)
 
 -- ---- trees
 

@@ -1,9 +1,16 @@
 // The tree of shortest routes, which travels by value, and the jobs over it. Inside a job its arrays are lent.
 ghost use mathlib.Core.Path.{_≡_};
+ghost use Prim.Native.Nat.{_<_};
+ghost use lib.Dec.{eqb};
+ghost use lib.ListN.{length, getD};
 ghost use Rattle.rules.specs.Answers.{told};
-ghost use Rattle.rules.specs.Columns.{table, emptyTree};
-ghost use Rattle.rules.specs.Refusals.{judgeTree};
+ghost use Rattle.rules.specs.Columns.{Proper, Whole, table, arrays, emptyTree, unreached};
+ghost use Rattle.rules.specs.Refusals.{judgeTree, judgeUpdate, judgeAsked};
+ghost use Rattle.rules.specs.Jobs.{Built, Updated, Pathed};
+ghost use Rattle.batch.specs.Rows.{rowsOfColumns};
+ghost use Rattle.grow.specs.Grown.{Grown};
 ghost use Rattle.tree.specs.Value.{valueOf, withRow};
+use path::Traced;
 use rules::Answer;
 
 // For each of 256 nodes a distance, a parent link and a first link. Any numbers may stand in it: every job judges it.
@@ -11,6 +18,114 @@ pub struct Tree {
     pub dist: [u32; 256],
     pub parent: [u16; 256],
     pub first: [u16; 256],
+}
+
+// What a fresh build hands back.
+pub struct FreshTree {
+    pub tree: Tree,
+    pub answer: Answer,
+}
+
+// What an update hands back; `count` is how many nodes changed.
+pub struct NextTree {
+    pub tree: Tree,
+    pub answer: Answer,
+    pub count: usize,
+}
+
+// What asking for a path hands back; `count` is how many links it has.
+pub struct PathTold {
+    pub answer: Answer,
+    pub count: usize,
+}
+
+// A tree grown over a table that was accepted.
+fn grown(nodes: usize, root: usize, starts: &[u16], ends: &[u16], costs: &[u16]) -> Tree
+    requires { ⌜ Proper (table nodes root (now starts) (now ends) (now costs)) ⌝ }
+    ensures { λ r. ⌜ Grown (table nodes root (now (starts .entry)) (now (ends .entry)) (now (costs .entry))) (valueOf r) ⌝ }
+{
+    let mut dist = [0u32; 256];
+    let mut parent = [0u16; 256];
+    let mut first = [0u16; 256];
+    grow::grow(
+        nodes,
+        root,
+        starts,
+        ends,
+        costs,
+        &mut dist,
+        &mut parent,
+        &mut first,
+    );
+    Tree {
+        dist: dist,
+        parent: parent,
+        first: first,
+    }
+}
+
+// Refusals 1 to 9 and 12, over lent arrays, which by their type are whole.
+fn judge_update<'a>(
+    nodes: usize,
+    root: usize,
+    starts: &[u16],
+    ends: &[u16],
+    costs: &[u16],
+    dist: &'a [u32; 256],
+    parent: &'a [u16; 256],
+    first: &'a [u16; 256],
+    changed: &[u16],
+    newcosts: &[u16],
+    list: &[u16],
+) -> Answer
+    ensures { λ r. ⌜ (told r ≡ judgeUpdate (table nodes root (now (starts .entry)) (now (ends .entry)) (now (costs .entry))) (arrays (now (dist .entry)) (now (parent .entry)) (now (first .entry))) (rowsOfColumns (now (changed .entry)) (now (newcosts .entry))) (now (list .entry))) × Whole (arrays (now (dist .entry)) (now (parent .entry)) (now (first .entry))) ⌝ }
+{
+    let answer = fit::judge_lent(nodes, root, starts, ends, costs, dist, parent, first);
+    if rules::number(answer) != 0 {
+        return answer;
+    }
+    let answer = batch::judge_batch(starts.len(), changed, newcosts);
+    if rules::number(answer) != 0 {
+        return answer;
+    }
+    if list.len() < nodes {
+        return Answer::ListTooShort;
+    }
+    Answer::Accepted
+}
+
+fn is_unreached(dist: &[u32], node: usize) -> bool
+    requires { ⌜ node < length (now dist) ⌝ }
+    ensures { λ r. ⌜ r ≡ eqb (getD (now (dist .entry)) node 0) unreached ⌝ }
+{
+    dist[node] == 16_777_215
+}
+
+// Refusals 1 to 6, 10 and 11, over lent arrays, which by their type are whole.
+fn judge_asked<'a>(
+    nodes: usize,
+    root: usize,
+    starts: &[u16],
+    ends: &[u16],
+    costs: &[u16],
+    dist: &'a [u32; 256],
+    parent: &'a [u16; 256],
+    first: &'a [u16; 256],
+    node: usize,
+) -> Answer
+    ensures { λ r. ⌜ (told r ≡ judgeAsked (table nodes root (now (starts .entry)) (now (ends .entry)) (now (costs .entry))) (arrays (now (dist .entry)) (now (parent .entry)) (now (first .entry))) node) × Whole (arrays (now (dist .entry)) (now (parent .entry)) (now (first .entry))) ⌝ }
+{
+    let answer = fit::judge_lent(nodes, root, starts, ends, costs, dist, parent, first);
+    if rules::number(answer) != 0 {
+        return answer;
+    }
+    if nodes <= node {
+        return Answer::AskedNoNode;
+    }
+    if is_unreached(dist, node) {
+        return Answer::AskedUnreached;
+    }
+    Answer::Accepted
 }
 
 impl Tree {
@@ -58,5 +173,140 @@ impl Tree {
             &self.parent,
             &self.first,
         )
+    }
+
+    // Fresh build: refusals 1 to 5; a refused build hands back the empty tree.
+    pub fn build(
+        nodes: usize,
+        root: usize,
+        starts: &[u16],
+        ends: &[u16],
+        costs: &[u16],
+    ) -> FreshTree
+        ensures { λ r. ⌜ Built (table nodes root (now (starts .entry)) (now (ends .entry)) (now (costs .entry))) (told (r .answer)) (valueOf (r .tree)) ⌝ }
+    {
+        let answer = links::judge_links(nodes, root, starts, ends, costs);
+        if rules::number(answer) != 0 {
+            return FreshTree {
+                tree: Tree::empty(),
+                answer: answer,
+            };
+        }
+        FreshTree {
+            tree: grown(nodes, root, starts, ends, costs),
+            answer: answer,
+        }
+    }
+
+    // Update: refusals 1 to 9 and 12. The batch comes as two columns, a link and a new cost for each row. An accepted
+    // batch writes its costs and lists the changed nodes; a refused one leaves tree, costs and list as they came.
+    pub fn update(
+        mut self,
+        nodes: usize,
+        root: usize,
+        starts: &[u16],
+        ends: &[u16],
+        costs: &mut [u16],
+        changed: &[u16],
+        newcosts: &[u16],
+        list: &mut [u16],
+    ) -> NextTree
+        ensures { λ r. ⌜ Updated (table nodes root (now (starts .entry)) (now (ends .entry)) (now (costs .entry))) (valueOf self) (rowsOfColumns (now (changed .entry)) (now (newcosts .entry))) (now (list .entry)) (told (r .answer)) (valueOf (r .tree)) (now (costs .exit)) (now (list .exit)) (r .count) ⌝ }
+    {
+        let mut dist = self.dist;
+        let mut parent = self.parent;
+        let mut first = self.first;
+        let answer = judge_update(
+            nodes,
+            root,
+            starts,
+            ends,
+            costs,
+            &dist,
+            &parent,
+            &first,
+            changed,
+            newcosts,
+            list,
+        );
+        if rules::number(answer) != 0 {
+            return NextTree {
+                tree: self,
+                answer: answer,
+                count: 0,
+            };
+        }
+        batch::write_costs(changed, newcosts, costs);
+        grow::regrow(
+            nodes,
+            root,
+            starts,
+            ends,
+            costs,
+            &mut dist,
+            &mut parent,
+            &mut first,
+        );
+        let count = changed::list_changed(
+            nodes,
+            &self.dist,
+            &self.parent,
+            &self.first,
+            &dist,
+            &parent,
+            &first,
+            list,
+        );
+        self.dist = dist;
+        self.parent = parent;
+        self.first = first;
+        NextTree {
+            tree: self,
+            answer: answer,
+            count: count,
+        }
+    }
+
+    // Path: refusals 1 to 6 and 10 to 12. The links from the root to the node stand at the front of the list then.
+    pub fn path(
+        self,
+        nodes: usize,
+        root: usize,
+        starts: &[u16],
+        ends: &[u16],
+        costs: &[u16],
+        node: usize,
+        list: &mut [u16],
+    ) -> PathTold
+        ensures { λ r. ⌜ Pathed (table nodes root (now (starts .entry)) (now (ends .entry)) (now (costs .entry))) (valueOf self) node (now (list .entry)) (told (r .answer)) (now (list .exit)) (r .count) ⌝ }
+    {
+        let answer = judge_asked(
+            nodes,
+            root,
+            starts,
+            ends,
+            costs,
+            &self.dist,
+            &self.parent,
+            &self.first,
+            node,
+        );
+        if rules::number(answer) != 0 {
+            return PathTold {
+                answer: answer,
+                count: 0,
+            };
+        }
+        let traced = path::trace(root, node, starts, &self.dist, &self.parent, list);
+        match traced {
+            Traced::Written(n) => PathTold {
+                answer: answer,
+                count: n,
+            },
+            Traced::TooShort => PathTold {
+                answer: Answer::ListTooShort,
+                count: 0,
+            },
+        }
     }
 }

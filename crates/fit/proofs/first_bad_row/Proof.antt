@@ -11,7 +11,8 @@ use Rattle.fit.proofs.first_bad_row.Statement.{statement}
 use Rattle.fit.proofs.first_bad_row.Tie as tie
 
 abbrev Inv-loop : tie.InvT-loop
-Inv-loop nodes root starts ends costs dist parent first v₀ v = (v ≤ mostNodes) × RightBefore (net nodes root starts ends costs) (rows dist parent first) v
+Inv-loop nodes root starts ends costs dist parent first v₀ v =
+    (v ≤ mostNodes) × RightBefore (net nodes root starts ends costs) (rows dist parent first) v
 
 abbrev μ-loop : tie.MeasureT-loop
 μ-loop nodes root starts ends costs dist parent first v₀ v = mostNodes - v
@@ -20,7 +21,9 @@ loop-holds : tie.Need-loop-holds Inv-loop μ-loop
 loop-holds c = (search needs, right-none _ _)
 
 row-right-requires : tie.Need-row-right-requires Inv-loop μ-loop
-row-right-requires c κs = let entry = c .before .before .before .before .before .before .before .before in (entry .pre .0, entry .pre .1, c .loop-test .taken)
+row-right-requires c κs =
+    let entry = c .before .before .before .before .before .before .before .before in
+    (entry .pre .0, entry .pre .1, omega arith)
 
 add-v : tie.Need-add-v Inv-loop μ-loop
 add-v c = search needs
@@ -32,7 +35,11 @@ loop-again : tie.Need-loop-again Inv-loop μ-loop
 loop-again c = (search needs, right-more (c .before .before .before .loop .inv .1) (c .before .row-right .ensures) (c .if1 .taken))
 
 returns : tie.Need-returns Inv-loop μ-loop
-returns c = record { within = search needs; before = c .before .before .before .loop .inv .1; wrong = λ l. sym (c .before .row-right .ensures) ∙ c .if1 .left }
+returns c = record {
+  within = search needs;
+  before = c .before .before .before .loop .inv .1;
+  wrong = λ l. sym (c .before .row-right .ensures) ∙ c .if1 .left;
+}
 
 returns-2 : tie.Need-returns-2 Inv-loop μ-loop
 returns-2 c = record { within = search needs; before = c .before .loop .inv .1; wrong = λ l. absurd (omega arith) }

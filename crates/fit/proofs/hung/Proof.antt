@@ -16,7 +16,9 @@ shared-slice-read-by : tie.Need-shared-slice-read-by
 shared-slice-read-by c = search needs
 
 cast-k : tie.Need-cast-k
-cast-k c = omega (arith, c .shared-slice-known7 .given (c .before .before .before .before .before .before .before .before .args .v))
+cast-k c =
+    let entry = c .before .before .before .before .before .before .before .before in
+    omega (arith, c .shared-slice-known7 .given (entry .args .v))
 
 returns-2 : tie.Need-returns-2
 returns-2 c =
@@ -57,13 +59,16 @@ shared-slice-read-hangs-5 c = search needs
 hangs-requires : tie.Need-hangs-requires
 hangs-requires c κs =
     let entry = c .before .before .before .before .before .before .before .before .before .before .before .before .before .before in
-    (entry .pre .0 .starts-have-rows (getD (entry .args .parent .now) (entry .args .v) 0) (omega arith), entry .pre .1 .dist, entry .pre .1 .first)
+    let by = getD (entry .args .parent .now) (entry .args .v) 0 in
+    (entry .pre .0 .starts-have-rows by (omega arith), entry .pre .1 .dist, entry .pre .1 .first)
 
 returns-3 : tie.Need-returns-3
 returns-3 c =
     let entry = c .before .before .before .before .before .before .before .before .before .before .before .before .before .before .before in
     let known = c .before .before .before .before .before .before .before .before .before .before .before .shared-slice-known4 .given (entry .args .v) in
-    hung-by _ _ (entry .pre .0) (entry .pre .1) (entry .pre .2) (c .hangs .ensures) (c .before .before .before .before .before .before .before .before .if1 .left) (omega arith) (c .before .before .before .before .before .before .if2 .left)
+    let is-node = c .before .before .before .before .before .before .before .before .if1 .left in
+    let is-link = c .before .before .before .before .before .before .if2 .left in
+    hung-by _ _ (entry .pre .0) (entry .pre .1) (entry .pre .2) (c .hangs .ensures) is-node (omega arith) is-link
 
 pub hung-spec : {M : Type 1} → statement M
 hung-spec =

@@ -15,10 +15,14 @@ abbrev tree-of : tie.Start → Tree
 tree-of c = arrays (c .args .dist .now) (c .args .parent .now) (c .args .first .now)
 
 first-bad-row-requires : tie.Need-first-bad-row-requires
-first-bad-row-requires c κs = let entry = c .before .before .before .before .before .before in (links-judged (links-of entry) (entry .pre .0), entry .pre .1)
+first-bad-row-requires c κs =
+    let entry = c .before .before .before .before .before .before in
+    (links-judged (links-of entry) (entry .pre .0), entry .pre .1)
 
 least-offended-requires : tie.Need-least-offended-requires
-least-offended-requires c κs = let entry = c .before .before .before .before .before .before .before in (links-judged (links-of entry) (entry .pre .0), entry .pre .1 .dist)
+least-offended-requires c κs =
+    let entry = c .before .before .before .before .before .before .before in
+    (links-judged (links-of entry) (entry .pre .0), entry .pre .1 .dist)
 
 answer-requires : tie.Need-answer-requires
 answer-requires c κs = search needs
@@ -26,7 +30,10 @@ answer-requires c κs = search needs
 returns : tie.Need-returns
 returns c =
     let entry = c .before .before .before .before .before .before .before .before .before .before in
-    let first = offended-first _ _ (links-judged (links-of entry) (entry .pre .0)) (entry .pre .1) (c .before .before .before .first-bad-row .ensures) (c .before .before .least-offended .ensures) (c .before .if1 .taken) in
+    let judged = links-judged (links-of entry) (entry .pre .0) in
+    let row = c .before .before .before .first-bad-row .ensures in
+    let offended = c .before .before .least-offended .ensures in
+    let first = offended-first _ _ judged (entry .pre .1) row offended (c .before .if1 .taken) in
     c .answer .ensures ∙ tree-decides (links-of entry) (tree-of entry) (entry .pre .0) first
 
 answer-requires-2 : tie.Need-answer-requires-2
@@ -35,7 +42,10 @@ answer-requires-2 c κs = search needs
 returns-2 : tie.Need-returns-2
 returns-2 c =
     let entry = c .before .before .before .before .before .before .before .before .before .before in
-    let first = row-first _ _ (links-judged (links-of entry) (entry .pre .0)) (entry .pre .1) (c .before .before .before .first-bad-row .ensures) (c .before .before .least-offended .ensures) (c .before .if1 .left) in
+    let judged = links-judged (links-of entry) (entry .pre .0) in
+    let row = c .before .before .before .first-bad-row .ensures in
+    let offended = c .before .before .least-offended .ensures in
+    let first = row-first _ _ judged (entry .pre .1) row offended (c .before .if1 .left) in
     c .answer2 .ensures ∙ tree-decides (links-of entry) (tree-of entry) (entry .pre .0) first
 
 pub judge-tree-spec : {M : Type 1} → statement M

@@ -26,7 +26,8 @@ returns-2 : tie.Need-returns-2
 unfolding offersLess
 returns-2 c =
     let a = c .before .before .before .args in
-    rw (le-ltb (a .from + a .cost) (a .to) (omega arith), eq-eqb (a .to) unreached (c .before .if2 .left), lt-ltb (a .from + a .cost) noCeiling (omega arith))
+    let counts = lt-ltb (a .from + a .cost) noCeiling (omega arith) in
+    rw (le-ltb (a .from + a .cost) (a .to) (omega arith), eq-eqb (a .to) unreached (c .before .if2 .left), counts)
     (simp and-true (c .leads .ensures))
 
 leads-requires-2 : tie.Need-leads-requires-2

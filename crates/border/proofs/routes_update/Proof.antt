@@ -1,0 +1,26 @@
+-- `border::routes_update` meets its contract: the number and the value told are those of the job's answer. Assumes nothing.
+use Rattle.border.proofs.Verdicts.{verdict-told}
+use borrow.Author.Needs.{needs}
+use Rattle.border.proofs.routes_update.Statement.{statement}
+use Rattle.border.proofs.routes_update.Tie as tie
+
+update-requires : tie.Need-update-requires
+update-requires c κs = search needs
+
+tell-requires : tie.Need-tell-requires
+tell-requires c κs = search needs
+
+same-length : tie.Need-same-length
+same-length c = search needs
+
+same-length-2 : tie.Need-same-length-2
+same-length-2 c = search needs
+
+returns : tie.Need-returns
+returns c =
+    let job = c .before .before .before .before .before .before .before .before .before .before .update in
+    rw (verdict-told (job .result .answer) (c .tell .ensures .0) (c .tell .ensures .1)) (job .ensures)
+
+pub routes-update-spec : {M : Type 1} → statement M
+routes-update-spec =
+    tie.close (tie.spec update-requires tell-requires same-length same-length-2 returns)

@@ -1,0 +1,89 @@
+-- One node more on the list of changed nodes. Assumes nothing.
+use mathlib.Core.Path.{_≡_, refl, sym, ap, _∙_, subst}
+use mathlib.Core.Bool.{Bool, true, false, _&&_, not}
+use mathlib.Core.List.{List, [], _∷_, _++_, append-assoc}
+use Prim.Native.Nat.{ℕ, zero, suc, _+_, _≤_, _<_}
+use native.Mathlib.Numerals.{add-one}
+use native.Mathlib.Omega.{arith}
+use lib.Dec.{eqb}
+use lib.ListN.{length, getD, set, drop, length-append}
+use lib.Seq.{set-append-seam, drop-cons}
+use Rattle.rules.specs.Tree.{Rows}
+use Rattle.rules.specs.Tests.{pick}
+use Rattle.rules.specs.Columns.{Tree, Whole, rowsOf, unreached, noLink}
+use Rattle.rules.specs.Jobs.{written, differs, changedBelow}
+use Rattle.rules.proofs.Logic.{getD-any}
+use Rattle.changed.specs.Listed.{Listed}
+
+-- the code's test of two rows is the rules'
+pub differs-by : {old new : Tree} → Whole old → Whole new → (v : ℕ) → v < 256
+    → not (eqb (getD (old .dist) v 0) (getD (new .dist) v 0) && eqb (getD (old .parent) v 0) (getD (new .parent) v 0) && eqb (getD (old .first) v 0) (getD (new .first) v 0))
+    ≡ differs (rowsOf old) (rowsOf new) v
+unfolding differs
+differs-by {old} {new} a b v l =
+    rw (
+      getD-any (old .dist) v 0 unreached (omega (arith, a .dist)),
+      getD-any (new .dist) v 0 unreached (omega (arith, b .dist)),
+      getD-any (old .parent) v 0 noLink (omega (arith, a .parent)),
+      getD-any (new .parent) v 0 noLink (omega (arith, b .parent)),
+      getD-any (old .first) v 0 noLink (omega (arith, a .first)),
+      getD-any (new .first) v 0 noLink (omega (arith, b .first)),
+    ) refl
+
+append-nil : (l : List ℕ) → l ++ [] ≡ l
+append-nil [] = refl
+append-nil (x ∷ l) = ap (λ (m : List ℕ). x ∷ m) (append-nil l)
+
+-- one entry more at the front
+written-more : (front list : List ℕ) (x : ℕ) → length front < length list → set (written front list) (length front) x ≡ written (front ++ (x ∷ [])) list
+written-more front list x l =
+    let next : length (front ++ (x ∷ [])) ≡ suc (length front) = length-append front (x ∷ []) ∙ add-one (length front) in
+    ap (λ (rest : List ℕ). set (front ++ rest) (length front) x) (drop-cons list (length front) 0 l)
+    ∙ set-append-seam front (getD list (length front) 0) (drop (suc (length front)) list) x
+    ∙ sym (append-assoc front (x ∷ []) (drop (suc (length front)) list))
+    ∙ ap (λ (n : ℕ). (front ++ (x ∷ [])) ++ drop n list) (sym next)
+
+module _ (old new : Rows) where
+  few : (n : ℕ) → length (changedBelow old new n) ≤ n
+  unfolding changedBelow
+  few zero = omega arith
+  few (suc n) = at (differs old new n) (few n)
+    where
+      at : (b : Bool) → length (changedBelow old new n) ≤ n → length (changedBelow old new n ++ pick b (n ∷ []) []) ≤ suc n
+      at true h = omega (arith, length-append (changedBelow old new n) (n ∷ []))
+      at false h = omega (arith, length-append (changedBelow old new n) [])
+
+module _ (old new : Rows) where
+  one-more : (n : ℕ) (b : Bool) → differs old new n ≡ b → changedBelow old new (n + 1) ≡ changedBelow old new n ++ pick b (n ∷ []) []
+  unfolding changedBelow
+  one-more n b e = ap (changedBelow old new) (add-one n) ∙ ap (λ (c : Bool). changedBelow old new n ++ pick c (n ∷ []) []) e
+
+pub listed-none : {old new : Tree} (list : List ℕ) → Listed old new 0 list list 0
+unfolding changedBelow
+listed-none list = record { front = refl; counted = refl }
+
+pub listed-end : {old new : Tree} {n m count : ℕ} {list listed : List ℕ} → n ≡ m → Listed old new n list listed count → Listed old new m list listed count
+listed-end {old} {new} {count = count} {list = list} {listed = listed} e h = subst (λ (n : ℕ). Listed old new n list listed count) e h
+
+module _ {old new : Tree} {n count : ℕ} {list listed : List ℕ} (h : Listed old new n list listed count) where
+  before : List ℕ
+  before = changedBelow (rowsOf old) (rowsOf new) n
+
+  pub count-few : count ≤ n
+  count-few = omega (arith, h .counted, few (rowsOf old) (rowsOf new) n)
+
+  pub listed-more : differs (rowsOf old) (rowsOf new) n ≡ true → count < length list → Listed old new (n + 1) list (set listed count n) (count + 1)
+  unfolding before
+  listed-more d l =
+      let more = one-more (rowsOf old) (rowsOf new) n true d in
+      record {
+        front = ap (λ (x : List ℕ). set x count n) (h .front) ∙ ap (λ (c : ℕ). set (written before list) c n) (h .counted)
+            ∙ written-more before list n (omega (arith, h .counted)) ∙ ap (λ (x : List ℕ). written x list) (sym more);
+        counted = ap (λ (c : ℕ). c + 1) (h .counted) ∙ sym (length-append before (n ∷ [])) ∙ ap length (sym more);
+      }
+
+  pub listed-same : differs (rowsOf old) (rowsOf new) n ≡ false → Listed old new (n + 1) list listed count
+  unfolding before
+  listed-same d =
+      let same = one-more (rowsOf old) (rowsOf new) n false d ∙ append-nil before in
+      record { front = h .front ∙ ap (λ (x : List ℕ). written x list) (sym same); counted = h .counted ∙ ap length (sym same) }

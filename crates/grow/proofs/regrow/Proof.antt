@@ -1,0 +1,39 @@
+-- `grow::regrow` meets its contract: what still stands of the old tree is the seed, each link is offered once, and the
+-- loop and the choice of parents do the rest. Assumes nothing.
+use Rattle.settle.proofs.Firsts.{leaving}
+use Rattle.grow.proofs.Laws.{ready, rooted, hangable, regrown}
+use Rattle.grow.proofs.regrow.Statement.{statement}
+use Rattle.grow.proofs.regrow.Tie as tie
+
+first-links-requires : tie.Need-first-links-requires
+first-links-requires c κs = leaving (c .before .before .before .pre .0)
+
+lift-requires : tie.Need-lift-requires
+lift-requires c κs =
+    let pre = c .before .before .before .before .before .before .before .before .before .pre in
+    (pre .0, c .before .before .before .before .before .first-links .ensures, rooted (pre .1), ready (pre .1))
+
+offer-all-requires : tie.Need-offer-all-requires
+offer-all-requires c κs = (c .before .before .before .before .before .before .before .before .before .before .before .before .before .pre .0, c .before .before .before .lift .ensures .begun)
+
+settle-requires : tie.Need-settle-requires
+settle-requires c κs = (c .before .before .before .before .before .before .before .before .before .before .before .before .before .before .before .before .before .before .pre .0, c .before .before .before .before .before .before .before .before .before .before .before .before .before .before .first-links .ensures, c .before .before .before .before .offer-all .ensures)
+
+hang-requires : tie.Need-hang-requires
+hang-requires c κs =
+    let pre = c .before .before .before .before .before .before .before .before .before .before .before .before .before .before .before .before .before .before .before .before .before .before .pre in
+    hangable (pre .0) (c .before .before .before .settle .ensures) (pre .1 .whole .parent) (pre .1 .whole .first)
+
+returns : tie.Need-returns
+returns c = regrown (c .before .before .before .before .settle .ensures) (c .hang .ensures)
+
+pub regrow-spec : {M : Type 1} → statement M
+regrow-spec =
+    tie.close
+    (tie.spec
+    first-links-requires
+    lift-requires
+    offer-all-requires
+    settle-requires
+    hang-requires
+    returns)

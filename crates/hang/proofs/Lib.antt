@@ -1,0 +1,4 @@
+pub mod Distances
+pub mod Parents
+pub mod Firsts
+pub mod Whole

@@ -1,0 +1,172 @@
+-- Distances that are least sums, parents as the two passes choose them and first links by those parents make the next
+-- tree. Assumes nothing.
+use mathlib.Core.Path.{_≡_, refl, sym, _∙_}
+use mathlib.Core.Logic.{_≢_}
+use mathlib.Core.List.{List}
+use Prim.Native.Nat.{ℕ, _≤_, _<_}
+use native.Mathlib.Omega.{arith}
+use native.Mathlib.Decide.{ℕ-discrete}
+use lib.ListN.{length, getD}
+use Rattle.rules.specs.Net.{Net}
+use Rattle.rules.specs.Tree.{Rows, Tight, Hung, Row, root, hung, bare}
+use Rattle.rules.specs.Keep.{Choice}
+use Rattle.rules.specs.Columns.{Table, netOf, rowsOf, arrays, mostNodes, unreached, noLink}
+use Rattle.rules.proofs.Judged.{legal}
+use Rattle.hang.specs.Ready.{Ready, Hanged}
+use Rattle.hang.specs.Passes.{Given, Tightly, Kept, keeps, drops, Filled, stays, takes, lacks, AllKept, AllFilled, Has, Rising, FirstOf, Firsts}
+use Rattle.hang.proofs.Distances.{some-tight, root-not-tight, mark-not-tight, offered}
+use Rattle.hang.proofs.Parents.{none-not-tight}
+use Rattle.hang.proofs.Firsts.{first-hangs, first-near, first-far, first-one}
+
+pub ready-given : {t : Table} {dist parent first : List ℕ} → Ready t dist parent first → Given (t .starts) (t .ends) (t .costs) dist
+ready-given a =
+    let p = a .proper in
+    record {
+      ends-long = p .ends-long;
+      costs-long = p .costs-long;
+      few-links = p .few-links;
+      starts-within = λ k l. omega (arith, p .starts k l, p .few-nodes);
+      ends-within = λ k l. omega (arith, p .ends k l, p .few-nodes);
+      dist-long = a .dist-long;
+    }
+
+-- a node stays on its old link, goes to the smallest tight one, or is bare, since no link is tight
+pub data Picked (Tight : ℕ → Type 0) (old new : ℕ) : Type 0 where
+  on-old : Tight old → new ≡ old → Picked Tight old new
+  on-smallest : ¬ (Tight old) → Tight new → ((j : ℕ) → Tight j → new ≤ j) → Picked Tight old new
+  on-none : new ≡ noLink → ((j : ℕ) → ¬ (Tight j)) → Picked Tight old new
+
+picked : {Tight : ℕ → Type 0} {links old mid new : ℕ} → ¬ (Tight noLink) → ((j : ℕ) → Tight j → j < links) → Kept Tight old mid → Filled Tight links mid new
+    → Picked Tight old new
+picked z l (keeps a e) (stays n q) = on-old a (q ∙ e)
+picked z l (keeps a e) (takes o b s) = absurd (z (rw (← o, e) a))
+picked z l (keeps a e) (lacks o q none) = absurd (z (rw (← o, e) a))
+picked z l (drops f e) (stays n q) = absurd (n e)
+picked z l (drops f e) (takes o b s) = on-smallest f b s
+picked z l (drops f e) (lacks o q none) = on-none q (λ j a. none j (l j a) a)
+
+-- ---- parents
+
+pub record AllPicked (t : Table) (dist old parent : List ℕ) : Type 0 where
+  pub long : length parent ≡ mostNodes
+  pub each : (v : ℕ) → Picked (Tightly (t .starts) (t .ends) (t .costs) dist v) (getD old v noLink) (getD parent v noLink)
+
+module _ {t : Table} {dist old first₀ : List ℕ} (a : Ready t dist old first₀) where
+  pub all-picked : {mid parent : List ℕ} → AllKept (t .starts) (t .ends) (t .costs) dist old mid
+      → AllFilled (t .starts) (t .ends) (t .costs) dist (length (t .starts)) mid parent → AllPicked t dist old parent
+  all-picked k f = record { long = f .long; each = λ v. picked (none-not-tight (ready-given a)) (λ j b. b .is-link) (k .each v) (f .each v) }
+
+module _ {t : Table} {dist old first₀ : List ℕ} (a : Ready t dist old first₀) {parent : List ℕ} (p : AllPicked t dist old parent) (first : List ℕ) where
+  abbrev N : Net
+  N = netOf t
+
+  abbrev r : Rows
+  r = rowsOf (arrays dist parent first)
+
+  -- a link is tight by the columns exactly where it is by the rules
+  tight-by-rules : {v k : ℕ} → Tightly (t .starts) (t .ends) (t .costs) dist v k → Tight N r k v
+  tight-by-rules b =
+      record {
+        usable = record { is-link = b .is-link; costs = omega (arith, b .exact .usable) };
+        ends-at = b .ends-at;
+        from-reached = b .exact .reached;
+        sum = b .exact .sum;
+      }
+
+  tight-by-columns : {v k : ℕ} → Tight N r k v → Tightly (t .starts) (t .ends) (t .costs) dist v k
+  tight-by-columns b =
+      record {
+        is-link = b .usable .is-link;
+        ends-at = b .ends-at;
+        exact = record { reached = b .from-reached; sum = b .sum; usable = omega (arith, b .usable .costs) };
+      }
+
+  tight-link : {v : ℕ} → Has parent v → Tight N r (getD parent v noLink) v
+  tight-link {v} h = at (p .each v)
+    where
+      at : Picked (Tightly (t .starts) (t .ends) (t .costs) dist v) (getD old v noLink) (getD parent v noLink) → Tight N r (getD parent v noLink) v
+      at (on-old b e) = rw e (tight-by-rules b)
+      at (on-smallest f b s) = tight-by-rules b
+      at (on-none e none) = absurd (h .link e)
+
+  -- a node for which a link is tight has one
+  has-tight : {v k : ℕ} → Tight N r k v → Has parent v
+  has-tight {v} {k} b = record { link = λ e. at e (p .each v) }
+    where
+      at : getD parent v noLink ≡ noLink → Picked (Tightly (t .starts) (t .ends) (t .costs) dist v) (getD old v noLink) (getD parent v noLink) → ⊥
+      at e (on-old c q) = none-not-tight (ready-given a) (rw (sym q ∙ e) at c)
+      at e (on-smallest f c s) = none-not-tight (ready-given a) (rw e at c)
+      at e (on-none q none) = none k (tight-by-columns b)
+
+  -- and one for which none is tight has none
+  bare-none : {v : ℕ} → ((k : ℕ) → Tight N r k v → ⊥) → getD parent v noLink ≡ noLink
+  bare-none {v} f = at (ℕ-discrete (getD parent v noLink) noLink)
+    where
+      at : Dec (getD parent v noLink ≡ noLink) → getD parent v noLink ≡ noLink
+      at (yes e) = e
+      at (no n) = absurd (f (getD parent v noLink) (tight-link (record { link = n })))
+
+  reached-has : {v : ℕ} → getD dist v unreached ≢ unreached → v ≢ t .root → Has parent v
+  reached-has h n = has-tight (some-tight (legal (a .proper)) r (a .sums) h n .1)
+
+  has-is-node : {v : ℕ} → Has parent v → v < t .nodes
+  has-is-node h = let b = tight-link h in omega (arith, b .ends-at, a .proper .ends _ (b .usable .is-link))
+
+  pub picked-rising : Rising (t .root) (t .starts) dist parent
+  picked-rising =
+      record {
+        long = p .long;
+        is-link = λ v h. tight-link h .usable .is-link;
+        goes-on = λ v h n. reached-has (tight-link h .from-reached) n;
+        nearer = λ v h. let b = tight-link h in omega (arith, b .sum, b .usable .costs);
+      }
+
+  -- ---- rows
+
+  module _ (f : Firsts (t .root) (t .starts) parent (t .nodes) first) where
+    no-first : (v : ℕ) → getD parent v noLink ≡ noLink → getD first v noLink ≡ noLink
+    no-first v e = at (ℕ-discrete (getD first v noLink) noLink)
+      where
+        at : Dec (getD first v noLink ≡ noLink) → getD first v noLink ≡ noLink
+        at (yes q) = q
+        at (no n) = absurd (first-hangs (f .known .right v (record { link = n })) .link e)
+
+    first-of : {v : ℕ} → Has parent v → FirstOf (t .root) (t .starts) parent v (getD first v noLink)
+    first-of {v} h = f .known .right v (f .each v (has-is-node h) h)
+
+    hung-row : {v : ℕ} → v ≢ t .root → getD dist v unreached ≢ unreached → Hung N r v
+    hung-row {v} n h =
+        let has = reached-has h n in
+        record {
+          is-node = has-is-node has;
+          not-root = n;
+          reached = h;
+          is-route = a .sums .is-route v h;
+          tight = tight-link has;
+          no-less = λ k o. offered (legal (a .proper)) r (a .sums) k o .1;
+          near = first-near (first-of has);
+          far = λ q. first-one (first-far (first-of has) q) refl (first-of (picked-rising .goes-on v has q));
+        }
+
+    row : (v : ℕ) → Row N r v
+    row v = at (ℕ-discrete v (t .root)) (ℕ-discrete (getD dist v unreached) unreached)
+      where
+        at : Dec (v ≡ t .root) → Dec (getD dist v unreached ≡ unreached) → Row N r v
+        at (yes e) d =
+            let none = bare-none {v = v} (rw e (root-not-tight (legal (a .proper)) r (a .sums))) in
+            root (record { is-root = e; at-zero = rw e (a .sums .root-zero); no-parent = none; no-first = no-first v none })
+        at (no n) (yes m) =
+            let none = bare-none {v = v} (mark-not-tight (legal (a .proper)) r (a .sums) (omega arith) m) in
+            bare (record { not-root = n; unreached = m; no-parent = none; no-first = no-first v none; no-offer = λ k o. offered (legal (a .proper)) r (a .sums) k o .0 m })
+        at (no n) (no h) = hung (hung-row n h)
+
+    choice : (v : ℕ) → Hung N r v → Choice N r (λ u. getD old u noLink) v
+    choice v h = at (p .each v)
+      where
+        at : Picked (Tightly (t .starts) (t .ends) (t .costs) dist v) (getD old v noLink) (getD parent v noLink) → Choice N r (λ u. getD old u noLink) v
+        at (on-old b e) = Choice.keeps (tight-by-rules b) e
+        at (on-smallest g b s) = Choice.takes (λ c. g (tight-by-columns c)) (record { tight = tight-by-rules b; smallest = λ j c. s j (tight-by-columns c) })
+        at (on-none e none) = absurd (none (getD parent v noLink) (tight-by-columns (h .tight)))
+
+    pub hanged : Hanged t dist old parent first
+    hanged = record { parent-long = p .long; first-long = f .known .long; next = record { fits = record { row = row }; choice = choice } }

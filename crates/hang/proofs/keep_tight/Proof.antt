@@ -1,0 +1,64 @@
+-- `hang::keep_tight` meets its contract. The loop's invariant is that the nodes before `v` are done and the others as
+-- they were; the measure is the number of nodes left. Assumes nothing.
+use Prim.Native.Nat.{_-_}
+use native.Mathlib.Omega.{arith}
+use borrow.Author.Needs.{needs}
+use Rattle.rules.specs.Columns.{mostNodes}
+use Rattle.hang.proofs.Parents.{Keeping, keeping-none, keeping-more, keeping-end}
+use Rattle.hang.proofs.keep_tight.Statement.{statement}
+use Rattle.hang.proofs.keep_tight.Tie as tie
+
+abbrev Inv-loop : tie.InvT-loop
+Inv-loop starts ends costs dist parent₀ v₀ parent v = Keeping starts ends costs dist v parent₀ parent
+
+abbrev μ-loop : tie.MeasureT-loop
+μ-loop starts ends costs dist parent₀ v₀ parent v = mostNodes - v
+
+loop-holds : tie.Need-loop-holds Inv-loop μ-loop
+loop-holds c = keeping-none (c .before .before .before .pre .1)
+
+mul-kept : tie.Need-mul-kept Inv-loop μ-loop
+mul-kept c = search needs
+
+element-copy-out-kept : tie.Need-element-copy-out-kept Inv-loop μ-loop
+element-copy-out-kept c = search needs
+
+kept-requires : tie.Need-kept-requires Inv-loop μ-loop
+kept-requires c κs = (c .before .before .before .before .before .before .pre .0, search needs)
+
+mul-parent : tie.Need-mul-parent Inv-loop μ-loop
+mul-parent c = search needs
+
+element-write-parent : tie.Need-element-write-parent Inv-loop μ-loop
+element-write-parent c = search needs
+
+add-v : tie.Need-add-v Inv-loop μ-loop
+add-v c = search needs
+
+loop-less : tie.Need-loop-less Inv-loop μ-loop
+loop-less c = search needs
+
+loop-again : tie.Need-loop-again Inv-loop μ-loop
+loop-again c = keeping-more (c .before .before .before .loop .inv) (omega arith) (c .kept .ensures)
+
+returns : tie.Need-returns Inv-loop μ-loop
+returns c =
+    let start = c .before .before .before .before .before in
+    keeping-end (start .pre .0) (c .before .loop .inv) (omega arith) (start .pre .1)
+
+pub keep-tight-spec : {M : Type 1} → statement M
+keep-tight-spec =
+    tie.close
+    (tie.spec
+    Inv-loop
+    μ-loop
+    loop-holds
+    mul-kept
+    element-copy-out-kept
+    kept-requires
+    mul-parent
+    element-write-parent
+    add-v
+    loop-less
+    loop-again
+    returns)

@@ -1,0 +1,3 @@
+-- Theorems about specs/, in reading order.
+pub mod Notes
+pub mod Lifts

@@ -1,0 +1,81 @@
+-- `lift::lift_noted` meets its contract. The invariant: every node stands. The measure is how many are reached. Assumes nothing.
+use native.Mathlib.Omega.{arith}
+use borrow.Author.Needs.{needs}
+use Rattle.rules.specs.Columns.{table}
+use Rattle.lift.specs.Loose.{reachedCount}
+use Rattle.settle.proofs.Rounds.{chosen}
+use Rattle.lift.proofs.Lifts.{Lifting, lift-stands, lift-falls, lifted}
+use Rattle.lift.proofs.lift_noted.Statement.{statement}
+use Rattle.lift.proofs.lift_noted.Tie as tie
+
+abbrev Inv-loop : tie.InvT-loop
+Inv-loop nodes root starts ends costs at parent dist₀ keys₀ mins₀ key₀ dist keys mins key = Lifting (table nodes root starts ends costs) parent dist keys mins key
+
+abbrev μ-loop : tie.MeasureT-loop
+μ-loop nodes root starts ends costs at parent dist₀ keys₀ mins₀ key₀ dist keys mins key = reachedCount dist
+
+least-requires : tie.Need-least-requires Inv-loop μ-loop
+least-requires c κs = search needs
+
+loop-holds : tie.Need-loop-holds Inv-loop μ-loop
+loop-holds c = record { stands = c .before .before .before .before .before .pre .3; least = c .least .ensures }
+
+cast-u : tie.Need-cast-u Inv-loop μ-loop
+cast-u c = search needs
+
+take-requires : tie.Need-take-requires Inv-loop μ-loop
+take-requires c κs = (c .before .before .before .loop .inv .stands .lined .queue, omega arith)
+
+mul-dist : tie.Need-mul-dist Inv-loop μ-loop
+mul-dist c = search needs
+
+element-write-dist : tie.Need-element-write-dist Inv-loop μ-loop
+element-write-dist c = omega (arith, c .before .before .before .before .loop .inv .stands .lined .long)
+
+mul-note-hung-on : tie.Need-mul-note-hung-on Inv-loop μ-loop
+mul-note-hung-on c = search needs
+
+element-copy-out-note-hung-on : tie.Need-element-copy-out-note-hung-on Inv-loop μ-loop
+element-copy-out-note-hung-on c = omega (arith, c .before .before .before .before .before .before .before .before .before .before .pre .1 .long)
+
+note-hung-on-requires : tie.Need-note-hung-on-requires Inv-loop μ-loop
+note-hung-on-requires c κs =
+    let start = c .before .before .before .before .before .before .before .before .before .before .before .before .before .before in
+    let inv = c .before .before .before .before .before .before .before .before .loop .inv in
+    let w = chosen (inv .stands .lined) (inv .least) (c .before .before .before .before .before .before .before .loop-test .taken) in
+    (start .pre .0, start .pre .2, start .pre .1 .each _ (w .is-node), lift-stands (inv .stands) w (c .before .before .before .before .take .ensures))
+
+least-requires-2 : tie.Need-least-requires-2 Inv-loop μ-loop
+least-requires-2 c κs = search needs
+
+loop-less : tie.Need-loop-less Inv-loop μ-loop
+loop-less c =
+    let inv = c .before .before .before .before .before .before .before .before .before .before .before .loop .inv in
+    let w = chosen (inv .stands .lined) (inv .least) (c .before .before .before .before .before .before .before .before .before .before .loop-test .taken) in
+    lift-falls (inv .stands) w (c .before .before .before .before .before .before .before .take .ensures)
+
+loop-again : tie.Need-loop-again Inv-loop μ-loop
+loop-again c = record { stands = c .before .before .note-hung-on .ensures; least = c .least2 .ensures }
+
+returns : tie.Need-returns Inv-loop μ-loop
+returns c = lifted (c .before .loop .inv) (c .loop-test .left)
+
+pub lift-noted-spec : {M : Type 1} → statement M
+lift-noted-spec =
+    tie.close
+    (tie.spec
+    Inv-loop
+    μ-loop
+    least-requires
+    loop-holds
+    cast-u
+    take-requires
+    mul-dist
+    element-write-dist
+    mul-note-hung-on
+    element-copy-out-note-hung-on
+    note-hung-on-requires
+    least-requires-2
+    loop-less
+    loop-again
+    returns)

@@ -1,0 +1,94 @@
+-- Which distances still stand after costs have changed: a node's parent link carries it, or the node waits to be
+-- lifted. Nothing is asked of the parents: they may be any links, or none. Assumes nothing.
+use mathlib.Core.Path.{_≡_}
+use mathlib.Core.Logic.{_≢_}
+use mathlib.Core.Bool.{Bool, true, false}
+use mathlib.Core.List.{List}
+use Prim.Native.Nat.{ℕ, _+_, _≤_, _<_}
+use lib.Dec.{ltb}
+use lib.ListN.{length, getD}
+use Rattle.rules.specs.Keep.{count}
+use Rattle.rules.specs.Columns.{Table, netOf, mostNodes, unreached, noLink}
+use Rattle.queue.specs.Queue.{empty}
+use Rattle.settle.specs.Afoot.{distAt, keyAt, Lined, Begun}
+
+-- node v's parent link; there is none where there is no such node
+abbrev pub parentAt : List ℕ → ℕ → ℕ
+parentAt parent v = getD parent v noLink
+
+-- a test's answer says whether P holds
+pub data Says (P : Type 0) : Bool → Type 0 where
+  holds : P → Says P true
+  fails : (P → ⊥) → Says P false
+
+-- a distance for each of 256 nodes, none above the mark
+pub record Marked (dist : List ℕ) : Type 0 where
+  pub long : length dist ≡ mostNodes
+  pub most : (v : ℕ) → distAt dist v ≤ unreached
+
+-- a link of this cost from a node at distance `from` offers no more than `to`
+pub record Offers (from cost to : ℕ) : Type 0 where
+  pub reached : from < unreached
+  pub enough : from + cost ≤ to
+  pub costs : 0 < cost
+
+-- link k carries node v: it is usable and leads to v from a reached node, whose distance plus its cost is at most v's
+pub record Carries (t : Table) (dist : List ℕ) (k v : ℕ) : Type 0 where
+  pub is-link : k < length (t .starts)
+  pub ends-at : netOf t .end k ≡ v
+  pub offers : Offers (distAt dist (netOf t .start k)) (netOf t .cost k) (distAt dist v)
+
+-- node v needs nothing more, or waits
+pub data Standing (t : Table) (parent dist keys : List ℕ) (v : ℕ) : Type 0 where
+  bare : distAt dist v ≡ unreached → Standing t parent dist keys v
+  root : v ≡ t .root → Standing t parent dist keys v
+  waits : keyAt keys v ≢ empty → Standing t parent dist keys v
+  carried : Carries t dist (parentAt parent v) v → Standing t parent dist keys v
+
+-- a parent link for each of 256 nodes, and none for the root
+pub record Rooted (t : Table) (parent : List ℕ) : Type 0 where
+  pub long : length parent ≡ mostNodes
+  pub no-parent : parentAt parent (t .root) ≡ noLink
+
+-- each node that is sure stands; the root never waits
+pub record Loose (t : Table) (parent : List ℕ) (sure : ℕ → Type 0) (dist keys mins : List ℕ) : Type 0 where
+  pub lined : Lined dist keys mins
+  pub root-zero : distAt dist (t .root) ≡ 0
+  pub root-idle : keyAt keys (t .root) ≡ empty
+  pub standing : (v : ℕ) → sure v → Standing t parent dist keys v
+
+-- v hangs on u by its parent link
+pub record Hangs (t : Table) (parent : List ℕ) (u v : ℕ) : Type 0 where
+  pub is-link : parentAt parent v < length (t .starts)
+  pub leaves : netOf t .start (parentAt parent v) ≡ u
+  pub ends-at : netOf t .end (parentAt parent v) ≡ v
+
+-- every node stands
+abbrev pub AllStand : Table → List ℕ → List ℕ → List ℕ → List ℕ → Type 0
+AllStand t parent dist keys mins = Loose t parent (λ v. Unit {0}) dist keys mins
+
+-- every node stands but those that hang on u
+abbrev pub StandBut : Table → List ℕ → ℕ → List ℕ → List ℕ → List ℕ → Type 0
+StandBut t parent u dist keys mins = Loose t parent (λ v. Hangs t parent u v → ⊥) dist keys mins
+
+-- before: any distances up to the mark, the root's 0, and nothing waits
+pub record Ready (t : Table) (dist keys mins : List ℕ) : Type 0 where
+  pub lined : Lined dist keys mins
+  pub root-zero : distAt dist (t .root) ≡ 0
+  pub none-waits : (v : ℕ) → keyAt keys v ≡ empty
+
+-- after: no distance is too small, and nothing waits
+pub record Lifted (t : Table) (dist keys mins : List ℕ) : Type 0 where
+  pub begun : Begun t dist keys mins
+  pub none-waits : (v : ℕ) → keyAt keys v ≡ empty
+
+-- node v waits if it is reached, and nothing else is changed
+pub record Noted (dist keys : List ℕ) (v : ℕ) (keys' mins' : List ℕ) : Type 0 where
+  pub lined : Lined dist keys' mins'
+  pub here : distAt dist v < unreached → keyAt keys' v ≢ empty
+  pub others : (u : ℕ) → u ≢ v → keyAt keys' u ≡ keyAt keys u
+
+-- how many nodes are reached
+unfoldable pub reachedCount : List ℕ → ℕ
+unfolding count
+reachedCount dist = count (λ v. ltb (distAt dist v) unreached) mostNodes

@@ -1,0 +1,2 @@
+-- Theorems about specs/ and the proofs of the functions.
+pub mod Laws

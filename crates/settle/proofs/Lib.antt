@@ -1,0 +1,6 @@
+-- Theorems about specs/ and the proofs of the functions, in reading order.
+pub mod Reach
+pub mod Offers
+pub mod Weight
+pub mod Rounds
+pub mod Firsts

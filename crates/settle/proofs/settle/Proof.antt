@@ -1,0 +1,81 @@
+-- `settle::settle` meets its contract. The invariant: every link is done but those of waiting nodes, and `key` is the
+-- least; the measure is the weight. Assumes nothing.
+use Prim.Native.Nat.{_%_}
+use native.Mathlib.Omega.{arith}
+use borrow.Author.Needs.{needs}
+use Rattle.rules.specs.Columns.{table}
+use Rattle.rules.specs.Demands.{Narrow}
+use Rattle.queue.specs.Queue.{Least}
+use Rattle.settle.specs.Afoot.{Afoot, weight}
+use Rattle.settle.proofs.Rounds.{Chosen, chosen, partly-taken, lighter, settled}
+use Rattle.settle.proofs.settle.Statement.{statement}
+use Rattle.settle.proofs.settle.Tie as tie
+
+abbrev Inv-loop : tie.InvT-loop
+Inv-loop nodes root starts ends costs at dist₀ keys₀ mins₀ key₀ dist keys mins key =
+    Afoot (table nodes root starts ends costs) dist keys mins × Least mins 0 16 key
+
+abbrev μ-loop : tie.MeasureT-loop
+μ-loop nodes root starts ends costs at dist₀ keys₀ mins₀ key₀ dist keys mins key = weight dist keys
+
+-- the node of least key waits
+node : (c : tie.In-loop Inv-loop μ-loop) → Chosen (c .before .loop .dist) (c .before .loop .keys) (c .before .loop .key % 256)
+node c = chosen (c .before .loop .inv .0 .begun .lined) (c .before .loop .inv .1) (c .loop-test .taken)
+
+least-requires : tie.Need-least-requires Inv-loop μ-loop
+least-requires c κs = search needs
+
+loop-holds : tie.Need-loop-holds Inv-loop μ-loop
+loop-holds c = (c .before .before .before .before .before .pre .2, c .least .ensures)
+
+cast-u : tie.Need-cast-u Inv-loop μ-loop
+cast-u c = search needs
+
+take-requires : tie.Need-take-requires Inv-loop μ-loop
+take-requires c κs = (c .before .before .before .loop .inv .0 .begun .lined .queue, node (c .before .before) .is-node)
+
+mul-offer-from : tie.Need-mul-offer-from Inv-loop μ-loop
+mul-offer-from c = omega (arith, node (c .before .before .before) .is-node)
+
+element-copy-out-offer-from : tie.Need-element-copy-out-offer-from Inv-loop μ-loop
+element-copy-out-offer-from c = node (c .before .before .before) .is-node
+
+offer-from-requires : tie.Need-offer-from-requires Inv-loop μ-loop
+offer-from-requires c κs =
+    let start = c .before .before .before .before .before .before .before .before .before .before .before .before .before .before in
+    let chosen = node (c .before .before .before .before .before .before .before) in
+    (start .pre .0, partly-taken (c .before .before .before .before .before .before .before .before .loop .inv .0) chosen (c .before .before .before .before .take .ensures), start .pre .1 .each _ (chosen .is-node), chosen .near)
+
+least-requires-2 : tie.Need-least-requires-2 Inv-loop μ-loop
+least-requires-2 c κs = search needs
+
+loop-less : tie.Need-loop-less Inv-loop μ-loop
+loop-less c = omega (arith, c .before .before .offer-from .ensures .1, lighter (c .before .before .before .before .before .before .before .before .before .before .before .loop .inv .0) (node (c .before .before .before .before .before .before .before .before .before .before)) (c .before .before .before .before .before .before .before .take .ensures))
+
+loop-again : tie.Need-loop-again Inv-loop μ-loop
+loop-again c = (c .before .before .offer-from .ensures .0, c .least2 .ensures)
+
+returns : tie.Need-returns Inv-loop μ-loop
+returns c =
+    let start = c .before .before .before .before .before .before .before in
+    let loop = c .before .loop in
+    let narrow : Narrow (start .args .costs .now) = record { narrow = λ k. omega (arith, c .before .before .before .before .shared-slice-known3 .given k) } in
+    settled (start .pre .0) narrow (loop .inv .0) (loop .inv .1) (c .loop-test .left)
+
+pub settle-spec : {M : Type 1} → statement M
+settle-spec =
+    tie.close
+    (tie.spec
+    Inv-loop
+    μ-loop
+    least-requires
+    loop-holds
+    cast-u
+    take-requires
+    mul-offer-from
+    element-copy-out-offer-from
+    offer-from-requires
+    least-requires-2
+    loop-less
+    loop-again
+    returns)
