@@ -8,6 +8,7 @@ pub mod Kept
 pub mod Room
 pub mod Judged
 pub mod OneOutcome
+pub mod Refused
 pub mod Demands
 pub mod Pier
 pub mod Wrong

@@ -1,4 +1,4 @@
--- Demands 2 and 3. proofs/Demands.antt shows that the rules meet them. Assumes nothing.
+-- The three demands. proofs/Refused.antt and proofs/Demands.antt show that the rules meet them. Assumes nothing.
 use mathlib.Core.Path.{_≡_}
 use mathlib.Core.Logic.{_≢_}
 use mathlib.Core.Bool.{Bool, true}
@@ -12,6 +12,29 @@ use Rattle.rules.specs.Columns.{Table, Tree, netOf, rowsOf, after, mostC
 use Rattle.rules.specs.Refusals.{accepted}
 use Rattle.rules.specs.Jobs.{differs, Built, Updated}
 use Rattle.rules.specs.declared.Change.{Change}
+
+-- the numbers that each job can give
+abbrev pub ForBuild : ℕ → Type 0
+ForBuild number = (1 ≤ number) × (number ≤ 5)
+
+abbrev pub ForTree : ℕ → Type 0
+ForTree number = (1 ≤ number) × (number ≤ 6)
+
+pub data ForUpdate (number : ℕ) : Type 0 where
+  up-to-nine : 1 ≤ number → number ≤ 9 → ForUpdate number
+  list-short : number ≡ 12 → ForUpdate number
+
+pub data ForPath (number : ℕ) : Type 0 where
+  by-tree : ForTree number → ForPath number
+  asked : 10 ≤ number → number ≤ 12 → ForPath number
+
+-- a refused update: one of the listed numbers, and tree, costs and list as they were
+pub record Untouched (t : Table) (old : Tree) (list : List ℕ) (number : ℕ) (new : Tree) (costs listed : List ℕ) (count : ℕ) : Type 0 where
+  pub number-listed : ForUpdate number
+  pub tree-stays : new ≡ old
+  pub costs-stay : costs ≡ t .costs
+  pub list-stays : listed ≡ list
+  pub count-zero : count ≡ 0
 
 -- what stands after a fresh build and after any sequence of accepted batches
 pub data Stands : Table → Tree → Type 0 where

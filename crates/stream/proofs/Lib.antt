@@ -1,0 +1,6 @@
+-- Theorems about specs/, and the lemmas that the functions' proofs share, in reading order.
+pub mod Laws
+pub mod Stands
+pub mod Splits
+pub mod Encoded
+pub mod Pier
