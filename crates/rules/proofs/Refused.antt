@@ -88,9 +88,9 @@ module _ {n x : ℕ} (tree : Verdict) (for-tree : tree ≡ refused n x → ForTr
   asked-parts no-node unreached e = ⊎-both
       (λ a. by-tree (for-tree a))
       (λ a. ⊎-both
-          (λ b. let is = when-number no-node 10 b in asked (omega arith) (omega arith))
-          (λ b. let is = when-number unreached 11 b in asked (omega arith) (omega arith))
-          (then-cases (when no-node 10) (when unreached 11) a))
+      (λ b. let is = when-number no-node 10 b in asked (omega arith) (omega arith))
+      (λ b. let is = when-number unreached 11 b in asked (omega arith) (omega arith))
+      (then-cases (when no-node 10) (when unreached 11) a))
       (then-cases tree (when no-node 10 then when unreached 11) e)
 
 pub update-number : (t : Table) (tree : Tree) (batch : List Change) (list : List ℕ) {n x : ℕ} → judgeUpdate t tree batch list ≡ refused n x → ForUpdate n
