@@ -1,0 +1,328 @@
+-- What holds between records is kept by every record. Assumes nothing.
+use mathlib.Core.Path.{_≡_, refl, sym, ap, _∙_}
+use mathlib.Core.Bool.{Bool, true, false, not}
+use mathlib.Core.List.{List, []}
+use Prim.Native.Nat.{ℕ, _≤_, _<_}
+use native.Mathlib.Omega.{arith}
+use native.Mathlib.Decide.{decLt}
+use lib.Dec.{ltb}
+use lib.ListN.{length, set, take, length-set}
+use lib.Seq.{take-set-le}
+use borrow.Author.Tests.{le-ltb}
+use Rattle.rules.specs.Tree.{Fits}
+use Rattle.rules.specs.Tests.{firstBelow, breaks}
+use Rattle.rules.specs.Columns.{Table, Tree, table, netOf, rowsOf, after, mostLinks, mostRows, mostNodes}
+use Rattle.rules.specs.Refusals.{Verdict, accepted, refused, _then_, when, whenOne, judgeLinks, judgeTree, judgeRows, firstBadRow}
+use Rattle.rules.specs.declared.Change.{Change as CostChange}
+use Rattle.rules.proofs.Logic.{First, first-is, T-true, T-false, true-false}
+use Rattle.rules.proofs.Check.{breaks-rule}
+use Rattle.rules.proofs.Judged.{then-first, then-second, not-refused}
+use Rattle.rules.proofs.OneOutcome.{tree-links, length-applied}
+use Rattle.rules.proofs.Demands.{built-good, update-accept, update-good}
+use Rattle.batch.specs.Rows.{rowsOfColumns}
+use Rattle.tree.specs.Value.{valueOf}
+use Rattle.session.specs.declared.Phase.{Phase}
+use Rattle.session.specs.declared.Phase.the-variants.{Unread, Linking, Routing}
+use Rattle.session.specs.declared.State.{State}
+use Rattle.session.specs.declared.Done.{Done}
+use Rattle.session.specs.declared.Out.{Out}
+use Rattle.session.specs.declared.Out.the-variants.{Nothing}
+use Rattle.stream.specs.declared.Item.{Item}
+use Rattle.stream.specs.declared.Item.the-variants.{Network, Link, Change, Apply, Ask, End, UnknownKind, CutShort}
+use Rattle.session.specs.States.{refusing, asked, Columns, tableOf, waiting, oneMore, TableStands, Lent, TreeStands, networked, linked, changing, judgeWaiting, Begun, Applied}
+use Rattle.session.specs.Steps.{isUnread, isLinking, inOrder, Lists, lists, tableIn, treeIn, lentIn, Holds, unread, linking, routing, Ready, begins, stays, Steps, out-of-order, unknown, cut, ended, network, link, change, apply, ask}
+use Rattle.session.proofs.Laws.{entry-written, no-place, no-row}
+
+-- ---- phases
+
+pub is-unread : (p : Phase) → isUnread p ≡ true → p ≡ Unread
+is-unread Unread e = refl
+is-unread Linking e = absurd (true-false (sym e))
+is-unread Routing e = absurd (true-false (sym e))
+
+pub is-linking : (p : Phase) → isLinking p ≡ true → p ≡ Linking
+is-linking Unread e = absurd (true-false (sym e))
+is-linking Linking e = refl
+is-linking Routing e = absurd (true-false (sym e))
+
+pub is-routing : (p : Phase) → isUnread p ≡ false → isLinking p ≡ false → p ≡ Routing
+is-routing Unread e f = absurd (true-false e)
+is-routing Linking e f = absurd (true-false f)
+is-routing Routing e f = refl
+
+pub not-true : (b : Bool) → not b ≡ true → b ≡ false
+not-true true e = absurd (true-false (sym e))
+not-true false e = refl
+
+pub columns-of : {s : State} {k : Lists} → Holds s k → Columns (k .starts) (k .ends) (k .costs)
+columns-of (unread p c l) = c
+columns-of (linking p t l) = t .columns
+columns-of (routing p t l) = t .columns
+
+pub lent-of : {s : State} {k : Lists} → Holds s k → lentIn k
+lent-of (unread p c l) = l
+lent-of (linking p t l) = l
+lent-of (routing p t l) = l
+
+pub table-of : {s : State} {k : Lists} → Holds s k → s .phase ≡ Linking → tableIn s k
+table-of (unread p c l) q = absurd (true-false (ap isUnread (sym p ∙ q)))
+table-of (linking p t l) q = t
+table-of (routing p t l) q = absurd (true-false (sym (ap isLinking (sym p ∙ q))))
+
+pub tree-of : {s : State} {k : Lists} → Holds s k → s .phase ≡ Routing → treeIn s k
+tree-of (unread p c l) q = absurd (true-false (ap isUnread (sym p ∙ q)))
+tree-of (linking p t l) q = absurd (true-false (ap isLinking (sym p ∙ q)))
+tree-of (routing p t l) q = t
+
+-- ---- judging what stands
+
+none-whenOne : (p : ℕ → Bool) (n number : ℕ) → First p n n → whenOne n p number ≡ accepted
+none-whenOne p n number f = rw (first-is f, le-ltb n n (omega arith)) refl
+
+-- a tree that fits an accepted table is accepted
+fits-accepted : (t : Table) (tree : Tree) → judgeLinks t ≡ accepted → Fits (netOf t) (rowsOf tree) → judgeTree t tree ≡ accepted
+unfolding judgeTree
+fits-accepted t tree e f =
+    let none : First (breaks (netOf t) (rowsOf tree)) mostNodes mostNodes = record {
+      within = omega arith;
+      before = λ v l. T-false (breaks (netOf t) (rowsOf tree) v) (λ b. breaks-rule (netOf t) (rowsOf tree) v (T-true (breaks (netOf t) (rowsOf tree) v) b) (f .row v));
+      passes = λ l. absurd (omega arith);
+    } in
+    ap (λ (v : Verdict). v then whenOne mostNodes (breaks (netOf t) (rowsOf tree)) 6) e ∙ none-whenOne (breaks (netOf t) (rowsOf tree)) mostNodes 6 none
+
+-- costs don't matter to a table's verdict
+after-accepted : (t : Table) (batch : List CostChange) → judgeLinks t ≡ accepted → judgeLinks (after t batch) ≡ accepted
+unfolding judgeLinks
+after-accepted t batch e = rw (length-applied batch (t .costs)) e
+
+no-rows-accepted : (t : Table) → judgeRows t [] ≡ accepted
+unfolding judgeRows firstBadRow firstBelow
+no-rows-accepted t = refl
+
+rows-none : (changed newcosts : List ℕ) (n : ℕ) → n ≡ 0 → rowsOfColumns (take n changed) (take n newcosts) ≡ []
+unfolding rowsOfColumns
+rows-none changed newcosts n e = rw e refl
+
+tree-links-accepted : (t : Table) (tree : Tree) → judgeTree t tree ≡ accepted → judgeLinks t ≡ accepted
+unfolding judgeTree
+tree-links-accepted t tree e = then-first (judgeLinks t) _ e
+
+-- ---- NETWORK
+
+pub network-keeps : {s : State} {k : Lists} → Holds s k → s .phase ≡ Unread → (nodes root : ℕ) (v : Verdict) → judgeLinks (table nodes root [] [] []) ≡ v
+    → Holds (networked v s nodes root .state) k
+network-keeps h p nodes root accepted e =
+    linking refl (record { columns = columns-of h; few-links = omega arith; judged = e; no-rows = refl }) (lent-of h)
+network-keeps h p nodes root (refused number value) e = h
+
+-- ---- LINK
+
+module _ {s : State} {starts ends costs : List ℕ} (t : TableStands s starts ends costs) (start end cost : ℕ) where
+  set-columns : Columns (set starts (s .links) start) (set ends (s .links) end) (set costs (s .links) cost)
+  set-columns = record {
+    starts-long = length-set starts (s .links) start ∙ t .columns .starts-long;
+    ends-long = length-set ends (s .links) end ∙ t .columns .ends-long;
+    costs-long = length-set costs (s .links) cost ∙ t .columns .costs-long;
+  }
+
+  link-stands : (v : Verdict)
+      → judgeLinks (table (s .nodes) (s .root) (oneMore (s .links) starts start) (oneMore (s .links) ends end) (oneMore (s .links) costs cost)) ≡ v
+      → TableStands (linked v s .state) (set starts (s .links) start) (set ends (s .links) end) (set costs (s .links) cost)
+  link-stands accepted e = at (decLt (s .links) mostLinks)
+    where
+      at : Dec (s .links < mostLinks) → TableStands (linked accepted s .state) (set starts (s .links) start) (set ends (s .links) end) (set costs (s .links) cost)
+      at (yes l) = record {
+        columns = set-columns;
+        few-links = omega arith;
+        judged = rw (
+          entry-written starts (s .links) start (omega (arith, t .columns .starts-long)),
+          entry-written ends (s .links) end (omega (arith, t .columns .ends-long)),
+          entry-written costs (s .links) cost (omega (arith, t .columns .costs-long)),
+        ) e;
+        no-rows = t .no-rows;
+      }
+      at (no l) = absurd (not-refused (no-place t start end cost (omega arith) ∙ e))
+  link-stands (refused number value) e = record {
+    columns = set-columns;
+    few-links = t .few-links;
+    judged = rw (
+      take-set-le (s .links) starts (s .links) start (omega arith),
+      take-set-le (s .links) ends (s .links) end (omega arith),
+      take-set-le (s .links) costs (s .links) cost (omega arith),
+    ) (t .judged);
+    no-rows = t .no-rows;
+  }
+
+linked-phase : (v : Verdict) (s : State) → linked v s .state .phase ≡ s .phase
+linked-phase accepted s = refl
+linked-phase (refused number value) s = refl
+
+pub link-keeps : {s : State} {k : Lists} → Holds s k → s .phase ≡ Linking → (start end cost : ℕ)
+    → Holds
+    (linked (judgeLinks (table (s .nodes) (s .root) (oneMore (s .links) (k .starts) start) (oneMore (s .links) (k .ends) end) (oneMore (s .links) (k .costs) cost))) s .state)
+    (lists (set (k .starts) (s .links) start) (set (k .ends) (s .links) end) (set (k .costs) (s .links) cost) (k .changed) (k .newcosts) (k .list))
+link-keeps {s} {k} h p start end cost =
+    let v = judgeLinks (table (s .nodes) (s .root) (oneMore (s .links) (k .starts) start) (oneMore (s .links) (k .ends) end) (oneMore (s .links) (k .costs) cost)) in
+    linking (linked-phase v s ∙ p) (link-stands (table-of h p) start end cost v refl) (lent-of h)
+
+-- ---- the first record after the LINKs
+
+pub begun-stands : {s r : State} {starts ends costs changed newcosts : List ℕ} → TableStands s starts ends costs → Begun s starts ends costs r
+    → TreeStands r starts ends costs changed newcosts
+begun-stands {s} {r} {starts} {ends} {costs} {changed} {newcosts} t b =
+    let good = built-good (b .built) refl in
+    let same : tableOf r starts ends costs ≡ tableOf s starts ends costs = ap (λ (x : State). tableOf x starts ends costs) (b .kept) in
+    let links : r .links ≡ s .links = ap (λ (x : State). x .links) (b .kept) in
+    let rows : r .rows ≡ 0 = ap (λ (x : State). x .rows) (b .kept) ∙ t .no-rows in
+    record {
+      columns = t .columns;
+      few-links = omega (arith, links, t .few-links);
+      few-rows = omega (arith, rows);
+      whole = good .whole;
+      judged = ap (λ (x : Table). judgeTree x (valueOf (r .tree))) same ∙ fits-accepted (tableOf s starts ends costs) (valueOf (r .tree)) (t .judged) (good .fits);
+      rows-judged = ap (λ (x : List CostChange). judgeRows (tableOf r starts ends costs) x) (rows-none changed newcosts (r .rows) rows) ∙ no-rows-accepted (tableOf r starts ends costs);
+    }
+
+pub ready-phase : {s r : State} {k : Lists} → Ready s k r → r .phase ≡ Routing
+ready-phase (begins p b) = ap (λ (x : State). x .phase) (b .kept)
+ready-phase (stays p) = p
+
+-- ---- CHANGE
+
+module _ {s : State} {starts ends costs changed newcosts list : List ℕ} (t : TreeStands s starts ends costs changed newcosts) (w : Lent changed newcosts list) (link cost : ℕ) where
+  set-lent : Lent (set changed (s .rows) link) (set newcosts (s .rows) cost) list
+  set-lent = record {
+    changed-long = length-set changed (s .rows) link ∙ w .changed-long;
+    newcosts-long = length-set newcosts (s .rows) cost ∙ w .newcosts-long;
+    list-long = w .list-long;
+  }
+
+  change-stands : (v : Verdict)
+      → judgeWaiting (tableOf s starts ends costs) (rowsOfColumns (oneMore (s .rows) changed link) (oneMore (s .rows) newcosts cost)) ≡ v
+      → TreeStands (changing v s .state) starts ends costs (set changed (s .rows) link) (set newcosts (s .rows) cost)
+  change-stands accepted e = at (decLt (s .rows) mostRows)
+    where
+      at : Dec (s .rows < mostRows) → TreeStands (changing accepted s .state) starts ends costs (set changed (s .rows) link) (set newcosts (s .rows) cost)
+      at (yes l) = record {
+        columns = t .columns;
+        few-links = t .few-links;
+        few-rows = omega arith;
+        whole = t .whole;
+        judged = t .judged;
+        rows-judged = rw (
+          entry-written changed (s .rows) link (omega (arith, w .changed-long)),
+          entry-written newcosts (s .rows) cost (omega (arith, w .newcosts-long)),
+        ) (then-second (when (ltb mostRows (length (rowsOfColumns (oneMore (s .rows) changed link) (oneMore (s .rows) newcosts cost)))) 7) _ e);
+      }
+      at (no l) = absurd (not-refused (no-row t w link cost (omega arith) ∙ e))
+  change-stands (refused number value) e = record {
+    columns = t .columns;
+    few-links = t .few-links;
+    few-rows = t .few-rows;
+    whole = t .whole;
+    judged = t .judged;
+    rows-judged = rw (
+      take-set-le (s .rows) changed (s .rows) link (omega arith),
+      take-set-le (s .rows) newcosts (s .rows) cost (omega arith),
+    ) (t .rows-judged);
+  }
+
+changing-phase : (v : Verdict) (s : State) → changing v s .state .phase ≡ s .phase
+changing-phase accepted s = refl
+changing-phase (refused number value) s = refl
+
+pub change-keeps : {r : State} {k : Lists} → r .phase ≡ Routing → treeIn r k → lentIn k → (link cost : ℕ)
+    → Holds
+    (changing (judgeWaiting (tableOf r (k .starts) (k .ends) (k .costs)) (rowsOfColumns (oneMore (r .rows) (k .changed) link) (oneMore (r .rows) (k .newcosts) cost))) r .state)
+    (lists (k .starts) (k .ends) (k .costs) (set (k .changed) (r .rows) link) (set (k .newcosts) (r .rows) cost) (k .list))
+change-keeps {r} {k} p t w named cost =
+    let v = judgeWaiting (tableOf r (k .starts) (k .ends) (k .costs)) (rowsOfColumns (oneMore (r .rows) (k .changed) named) (oneMore (r .rows) (k .newcosts) cost)) in
+    routing (changing-phase v r ∙ p) (change-stands t w named cost v refl) (set-lent t w named cost)
+
+-- ---- APPLY
+
+module _ {s : State} {starts ends costs changed newcosts list costs' list' : List ℕ} {d : Done} (t : TreeStands s starts ends costs changed newcosts)
+    (a : Applied s starts ends costs changed newcosts list d costs' list') (long : length costs' ≡ length costs) where
+  apply-stands : TreeStands (d .state) starts ends costs' changed newcosts
+  apply-stands =
+      let up = update-accept (a .updated) refl in
+      let good = update-good up in
+      let before = tableOf s starts ends costs in
+      let batch = waiting s changed newcosts in
+      let same : tableOf (d .state) starts ends costs' ≡ after before batch =
+      ap (λ (x : State). tableOf x starts ends costs') (a .kept) ∙ ap (λ (c : List ℕ). table (s .nodes) (s .root) (take (s .links) starts) (take (s .links) ends) c) (up .costs) in
+      let links : d .state .links ≡ s .links = ap (λ (x : State). x .links) (a .kept) in
+      let rows : d .state .rows ≡ 0 = ap (λ (x : State). x .rows) (a .kept) in
+      record {
+        columns = record { starts-long = t .columns .starts-long; ends-long = t .columns .ends-long; costs-long = long ∙ t .columns .costs-long };
+        few-links = omega (arith, links, t .few-links);
+        few-rows = omega (arith, rows);
+        whole = good .whole;
+        judged = ap (λ (x : Table). judgeTree x (valueOf (d .state .tree))) same
+            ∙ fits-accepted (after before batch) (valueOf (d .state .tree)) (after-accepted before batch (tree-links-accepted before (valueOf (s .tree)) (t .judged))) (good .fits);
+        rows-judged = ap (λ (x : List CostChange). judgeRows (tableOf (d .state) starts ends costs') x) (rows-none changed newcosts (d .state .rows) rows)
+            ∙ no-rows-accepted (tableOf (d .state) starts ends costs');
+      }
+
+pub apply-keeps : {r : State} {k : Lists} {d : Done} {costs list : List ℕ} → r .phase ≡ Routing → treeIn r k → lentIn k
+    → Applied r (k .starts) (k .ends) (k .costs) (k .changed) (k .newcosts) (k .list) d costs list → length costs ≡ length (k .costs) → length list ≡ length (k .list)
+    → Holds (d .state) (lists (k .starts) (k .ends) costs (k .changed) (k .newcosts) list)
+apply-keeps p t w a costs-kept list-kept =
+    routing (ap (λ (x : State). x .phase) (a .kept) ∙ p) (apply-stands t a costs-kept)
+    (record { changed-long = w .changed-long; newcosts-long = w .newcosts-long; list-long = list-kept ∙ w .list-long })
+
+-- ---- each item
+
+module _ {s : State} {k : Lists} (h : Holds s k) {item : Item} (ordered : inOrder (s .phase) item ≡ true) where
+  pub steps-network : {nodes root : ℕ} → item ≡ Network nodes root → {r : Done} → r ≡ networked (judgeLinks (table nodes root [] [] [])) s nodes root
+      → Steps s k item r k × Holds (r .state) k
+  steps-network {nodes} {root} is {r} e =
+      let p = is-unread (s .phase) (ap (λ (i : Item). inOrder (s .phase) i) (sym is) ∙ ordered) in
+      (rw (is, e) (network p), rw e (network-keeps h p nodes root (judgeLinks (table nodes root [] [] [])) refl))
+
+  pub link-phase : {start end cost : ℕ} → item ≡ Link start end cost → s .phase ≡ Linking
+  link-phase is = is-linking (s .phase) (ap (λ (i : Item). inOrder (s .phase) i) (sym is) ∙ ordered)
+
+  pub steps-link : {start end cost : ℕ} → item ≡ Link start end cost → {r : Done}
+      → r ≡ linked (judgeLinks (table (s .nodes) (s .root) (oneMore (s .links) (k .starts) start) (oneMore (s .links) (k .ends) end) (oneMore (s .links) (k .costs) cost))) s
+      → {starts ends costs : List ℕ} → starts ≡ set (k .starts) (s .links) start → ends ≡ set (k .ends) (s .links) end → costs ≡ set (k .costs) (s .links) cost
+      → Steps s k item r (lists starts ends costs (k .changed) (k .newcosts) (k .list)) × Holds (r .state) (lists starts ends costs (k .changed) (k .newcosts) (k .list))
+  steps-link {start} {end} {cost} is e a b c =
+      let p = link-phase is in
+      (rw (is, e, a, b, c) (link p), rw (e, a, b, c) (link-keeps h p start end cost))
+
+  pub not-unread : (i : Item) → item ≡ i → inOrder (s .phase) i ≡ not (isUnread (s .phase)) → isUnread (s .phase) ≡ false
+  not-unread i is e = not-true (isUnread (s .phase)) (sym e ∙ ap (λ (j : Item). inOrder (s .phase) j) (sym is) ∙ ordered)
+
+  pub steps-change : {named cost : ℕ} → item ≡ Change named cost → {r : State} → Ready s k r → treeIn r k → {d : Done}
+      → d ≡ changing (judgeWaiting (tableOf r (k .starts) (k .ends) (k .costs)) (rowsOfColumns (oneMore (r .rows) (k .changed) named) (oneMore (r .rows) (k .newcosts) cost))) r
+      → {changed newcosts : List ℕ} → changed ≡ set (k .changed) (r .rows) named → newcosts ≡ set (k .newcosts) (r .rows) cost
+      → Steps s k item d (lists (k .starts) (k .ends) (k .costs) changed newcosts (k .list)) × Holds (d .state) (lists (k .starts) (k .ends) (k .costs) changed newcosts (k .list))
+  steps-change {named} {cost} is ready t e a b =
+      (rw (is, e, a, b) (change ready), rw (e, a, b) (change-keeps (ready-phase ready) t (lent-of h) named cost))
+
+  pub steps-apply : item ≡ Apply → {r : State} → Ready s k r → treeIn r k → {d : Done} {costs list : List ℕ}
+      → Applied r (k .starts) (k .ends) (k .costs) (k .changed) (k .newcosts) (k .list) d costs list → length costs ≡ length (k .costs) → length list ≡ length (k .list)
+      → Steps s k item d (lists (k .starts) (k .ends) costs (k .changed) (k .newcosts) list) × Holds (d .state) (lists (k .starts) (k .ends) costs (k .changed) (k .newcosts) list)
+  steps-apply is ready t a costs-kept list-kept =
+      (rw is (apply ready a), apply-keeps (ready-phase ready) t (lent-of h) a costs-kept list-kept)
+
+  pub steps-ask : {node : ℕ} → item ≡ Ask node → {r : State} → Ready s k r → treeIn r k → {o : Out} → o ≡ asked r node
+      → Steps s k item (record { state = r; out = o }) k × Holds r k
+  steps-ask is ready t e = (rw (is, e) (ask ready), routing (ready-phase ready) t (lent-of h))
+
+  pub steps-end : item ≡ End → Steps s k item (record { state = s; out = Nothing }) k × Holds s k
+  steps-end is = (rw is (ended (not-unread End is refl)), h)
+
+  pub steps-unknown : {place : ℕ} → item ≡ UnknownKind place → {r : Done} → r ≡ refusing s 21 → Steps s k item r k × Holds (r .state) k
+  steps-unknown is e = (rw (is, e) unknown, rw e h)
+
+  pub steps-cut : {place : ℕ} → item ≡ CutShort place → {r : Done} → r ≡ refusing s 22 → Steps s k item r k × Holds (r .state) k
+  steps-cut is e = (rw (is, e) cut, rw e h)
+
+pub steps-disorder : {s : State} {k : Lists} → Holds s k → {item : Item} → inOrder (s .phase) item ≡ false → {r : Done} → r ≡ refusing s 23
+    → Steps s k item r k × Holds (r .state) k
+steps-disorder h o e = (rw e (out-of-order o), rw e h)
+
+pub few-nodes : (s : State) (k : Lists) → treeIn s k → s .nodes ≤ mostNodes
+few-nodes s k t = tree-links (tableOf s (k .starts) (k .ends) (k .costs)) (valueOf (s .tree)) (t .judged) .few-nodes

@@ -1,0 +1,178 @@
+-- What the parts' answers say of each record. Assumes nothing.
+use mathlib.Core.Path.{_≡_, refl, sym, ap, _∙_}
+use mathlib.Core.Bool.{true, false}
+use mathlib.Core.List.{List, [], _∷_, _++_}
+use Prim.Native.Nat.{ℕ, _+_, _≤_, _<_}
+use native.Mathlib.Omega.{arith}
+use native.Mathlib.Numerals.{add-one}
+use lib.ListN.{length, getD, set, take, drop, length-append}
+use lib.Seq.{length-take-le, take-suc-set, take-at, drop-at}
+use borrow.Author.Tests.{eq-eqb, lt-ltb, le-ltb, le-leb, lt-leb}
+use Rattle.rules.specs.Columns.{Table, Tree, Whole, table, mostLinks, mostRows, mostNodes, unreached, noLink}
+use Rattle.rules.specs.Refusals.{Verdict, accepted, refused, when, wrongNodeCount, wrongRoot, wrongColumns, judgeLinks, judgeBatch, judgeUpdate}
+use Rattle.rules.specs.Answers.{told, numberIn, numberOf}
+use Rattle.rules.specs.Jobs.{Built, built, not-built, Updated, updated, not-updated}
+use Rattle.rules.specs.declared.Answer.{Answer}
+use Rattle.rules.specs.declared.Change.{Change}
+use Rattle.rules.proofs.Logic.{getD-any}
+use Rattle.rules.proofs.Judged.{then-first, then-second, when-not}
+use Rattle.rules.proofs.OneOutcome.{tree-links, length-applied}
+use Rattle.rules.proofs.Demands.{update-accept}
+use Rattle.links.proofs.Laws.{columns-decide}
+use Rattle.batch.specs.Rows.{rowsOfColumns, BatchJudged}
+use Rattle.batch.proofs.Laws.{links-fewer}
+use Rattle.tree.specs.Value.{valueOf}
+use Rattle.session.specs.declared.State.{State}
+use Rattle.session.specs.declared.Done.{Done}
+use Rattle.session.specs.declared.Out.the-variants.{Row, Refused}
+use Rattle.session.specs.States.{tableOf, waiting, oneMore, TableStands, Lent, TreeStands, refusing, judgeWaiting, asked}
+
+-- ---- a record that is judged, and refused or done
+
+module _ {s : State} (does : Verdict → Done) (refuses : (number value : ℕ) → does (refused number value) ≡ refusing s number) where
+  refusing-is : (v : Verdict) → (v ≡ accepted → ⊥) → refusing s (numberIn v) ≡ does v
+  refusing-is accepted n = absurd (n refl)
+  refusing-is (refused number value) n = sym (refuses number value)
+
+  module _ (a : Answer) {v : Verdict} (is : told a ≡ v) where
+    pub is-refused : {r : Done} → r ≡ refusing s (numberOf a) → (told a ≡ accepted → ⊥) → r ≡ does v
+    is-refused e n = e ∙ refusing-is (told a) n ∙ ap does is
+
+    pub is-done : told a ≡ accepted → does accepted ≡ does v
+    is-done e = ap does (sym e ∙ is)
+
+-- ---- one entry more
+
+pub entry-length : (n : ℕ) (l : List ℕ) (x : ℕ) → n ≤ length l → length (oneMore n l x) ≡ n + 1
+entry-length n l x h = length-append (take n l) (x ∷ []) ∙ ap (λ (k : ℕ). k + 1) (length-take-le n l h)
+
+pub entry-written : (l : List ℕ) (n x : ℕ) → n < length l → take (n + 1) (set l n x) ≡ oneMore n l x
+entry-written l n x h = rw add-one (take-suc-set l n x h)
+
+-- ---- LINK
+
+module _ {s : State} {starts ends costs : List ℕ} (t : TableStands s starts ends costs) (start end cost : ℕ) where
+  abbrev longer : Table
+  longer = table (s .nodes) (s .root) (oneMore (s .links) starts start) (oneMore (s .links) ends end) (oneMore (s .links) costs cost)
+
+  count-right : wrongNodeCount longer ≡ false
+  unfolding judgeLinks
+  count-right = when-not (wrongNodeCount (tableOf s starts ends costs)) 1 (then-first (when (wrongNodeCount (tableOf s starts ends costs)) 1) _ (t .judged))
+
+  root-right : wrongRoot longer ≡ false
+  unfolding judgeLinks
+  root-right =
+      when-not (wrongRoot (tableOf s starts ends costs)) 2
+      (then-first (when (wrongRoot (tableOf s starts ends costs)) 2) _ (then-second (when (wrongNodeCount (tableOf s starts ends costs)) 1) _ (t .judged)))
+
+  -- the 4,097th
+  pub no-place : mostLinks ≤ s .links → refused 3 0 ≡ judgeLinks longer
+  no-place l = columns-decide longer count-right root-right wrong
+    where
+      wrong : wrongColumns longer ≡ true
+      wrong = rw (
+        entry-length (s .links) starts start (omega (arith, t .few-links, t .columns .starts-long)),
+        entry-length (s .links) ends end (omega (arith, t .few-links, t .columns .ends-long)),
+        entry-length (s .links) costs cost (omega (arith, t .few-links, t .columns .costs-long)),
+        eq-eqb (s .links + 1) (s .links + 1) refl,
+        lt-ltb mostLinks (s .links + 1) (omega arith),
+      ) refl
+
+  pub link-judged : s .links < mostLinks → {v : Verdict}
+      → v ≡ judgeLinks (table (s .nodes) (s .root) (take (s .links + 1) (set starts (s .links) start)) (take (s .links + 1) (set ends (s .links) end)) (take (s .links + 1) (set costs (s .links) cost)))
+      → v ≡ judgeLinks longer
+  link-judged l e = rw (
+    entry-written starts (s .links) start (omega (arith, t .columns .starts-long)),
+    entry-written ends (s .links) end (omega (arith, t .columns .ends-long)),
+    entry-written costs (s .links) cost (omega (arith, t .columns .costs-long)),
+  ) at e
+
+-- ---- the first record after the LINKs
+
+built-verdict : {t : Table} {v : Verdict} {tree : Tree} → Built t v tree → v ≡ judgeLinks t
+built-verdict (built e w f) = sym e
+built-verdict (not-built e) = sym e
+
+pub begins : {s : State} {starts ends costs : List ℕ} → TableStands s starts ends costs → {v : Verdict} {tree : Tree}
+    → Built (tableOf s starts ends costs) v tree → Built (tableOf s starts ends costs) accepted tree
+begins {s} {starts} {ends} {costs} t {v} {tree} b =
+    let is : v ≡ accepted = built-verdict b ∙ t .judged in
+    rw is at b
+
+-- ---- CHANGE
+
+module _ {s : State} {starts ends costs changed newcosts list : List ℕ} (t : TreeStands s starts ends costs changed newcosts) (w : Lent changed newcosts list) (link cost : ℕ) where
+  abbrev more : List Change
+  more = rowsOfColumns (oneMore (s .rows) changed link) (oneMore (s .rows) newcosts cost)
+
+  -- the 257th since the last APPLY
+  pub no-row : mostRows ≤ s .rows → refused 7 0 ≡ judgeWaiting (tableOf s starts ends costs) more
+  no-row l =
+      let links = entry-length (s .rows) changed link (omega (arith, t .few-rows, w .changed-long)) in
+      let prices = entry-length (s .rows) newcosts cost (omega (arith, t .few-rows, w .newcosts-long)) in
+      let rows : length more ≡ s .rows + 1 = links-fewer (oneMore (s .rows) changed link) (oneMore (s .rows) newcosts cost) (omega arith) ∙ links in
+      rw (rows, lt-ltb mostRows (s .rows + 1) (omega arith)) refl
+
+  pub row-judged : s .rows < mostRows → {a : Answer}
+      → BatchJudged (s .links) (rowsOfColumns (take (s .rows + 1) (set changed (s .rows) link)) (take (s .rows + 1) (set newcosts (s .rows) cost))) a
+      → told a ≡ judgeWaiting (tableOf s starts ends costs) more
+  row-judged l {a} j =
+      let here : BatchJudged (s .links) more a = rw (
+        entry-written changed (s .rows) link (omega (arith, w .changed-long)),
+        entry-written newcosts (s .rows) cost (omega (arith, w .newcosts-long)),
+      ) at j in
+      here .verdict (tableOf s starts ends costs) (length-take-le (s .links) starts (omega (arith, t .few-links, t .columns .starts-long)))
+
+-- ---- APPLY
+
+update-verdict : {t : Table} {old new : Tree} {batch : List Change} {list costs listed : List ℕ} {v : Verdict} {count : ℕ}
+    → Updated t old batch list v new costs listed count → v ≡ judgeUpdate t old batch list
+update-verdict (updated changed e w n q) = sym e
+update-verdict (not-updated e) = sym e
+
+module _ {s : State} {starts ends costs changed newcosts list : List ℕ} (t : TreeStands s starts ends costs changed newcosts) (w : Lent changed newcosts list) where
+  -- the rows that wait are never refused: nor is the tree, nor the list
+  pub apply-accepted : judgeUpdate (tableOf s starts ends costs) (valueOf (s .tree)) (waiting s changed newcosts) list ≡ accepted
+  unfolding judgeUpdate judgeBatch
+  apply-accepted =
+      let fine = tree-links (tableOf s starts ends costs) (valueOf (s .tree)) (t .judged) in
+      let links = length-take-le (s .rows) changed (omega (arith, t .few-rows, w .changed-long)) in
+      let prices = length-take-le (s .rows) newcosts (omega (arith, t .few-rows, w .newcosts-long)) in
+      let rows : length (waiting s changed newcosts) ≡ s .rows = links-fewer (take (s .rows) changed) (take (s .rows) newcosts) (omega arith) ∙ links in
+      rw (
+        t .judged,
+        le-ltb mostRows (length (waiting s changed newcosts)) (omega (arith, rows, t .few-rows)),
+        t .rows-judged,
+        le-ltb (length list) (s .nodes) (omega (arith, fine .few-nodes, w .list-long)),
+      ) refl
+
+  module _ {v : Verdict} {new : Tree} {front listed : List ℕ} {count : ℕ}
+      (u : Updated (tableOf s starts ends costs) (valueOf (s .tree)) (waiting s changed newcosts) list v new front listed count) where
+    front-long : length front ≡ s .links
+    front-long =
+        let a = update-accept u (update-verdict u ∙ apply-accepted) in
+        ap length (a .costs) ∙ length-applied (waiting s changed newcosts) (take (s .links) costs) ∙ length-take-le (s .links) costs (omega (arith, t .few-links, t .columns .costs-long))
+
+    pub apply-updated : Updated (tableOf s starts ends costs) (valueOf (s .tree)) (waiting s changed newcosts) list accepted
+        new (take (s .links) (front ++ drop (s .links) costs)) listed count
+    apply-updated =
+        let is : v ≡ accepted = update-verdict u ∙ apply-accepted in
+        rw (take-at front (drop (s .links) costs) (s .links) front-long) (rw is at u)
+
+    pub apply-beyond : drop (s .links) (front ++ drop (s .links) costs) ≡ drop (s .links) costs
+    apply-beyond = drop-at front (drop (s .links) costs) (s .links) front-long
+
+-- ---- ASK
+
+module _ (s : State) (node : ℕ) where
+  pub asks-none : s .nodes ≤ node → Refused 10 ≡ asked s node
+  asks-none l = rw (le-leb (s .nodes) node l) refl
+
+  pub asks-row : node < s .nodes → Whole (valueOf (s .tree)) → node < mostNodes
+      → Row node (getD (s .tree .dist) node 0) (getD (s .tree .parent) node 0) (getD (s .tree .first) node 0) ≡ asked s node
+  asks-row l w few = rw (
+    lt-leb (s .nodes) node l,
+    getD-any (s .tree .dist) node unreached 0 (omega (arith, w .dist)),
+    getD-any (s .tree .parent) node noLink 0 (omega (arith, w .parent)),
+    getD-any (s .tree .first) node noLink 0 (omega (arith, w .first)),
+  ) refl

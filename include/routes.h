@@ -1,0 +1,124 @@
+/* The route calculation, for programs in C and others that can call C.
+ *
+ * Link with target/staticlib/libborder.a, which `rt staticlib border` writes for x86-64. It asks for memcpy and memset
+ * and nothing else, allocates nothing and keeps no pointer. Calls on memory that no other thread touches may run at the
+ * same time.
+ *
+ * Memory. All memory is the caller's, before and after the call.
+ *   - A column or list is a pointer and a length in entries. Any length may be given: the functions judge it. The
+ *     pointer must be valid for that length; for length 0 it isn't read through, but it still must not be null, and it
+ *     must be aligned.
+ *   - dist, parent and first point at ROUTES_NODES entries each, whatever the node count.
+ *   - count and value point at one entry each. They are written by every call, refused or not, and never read.
+ *   - What a call writes (the parameters that aren't const) must share no memory with anything else that it is lent.
+ *     What it only reads may be shared.
+ *
+ * Numbers. Any numbers may stand in the memory: every function judges its whole input before it writes.
+ *
+ * Answers. A function hands back 0 for acceptance, or the refusal's number, the smallest that applies. *value is the
+ * link, node or row that the refusal carries, and 0 where it carries none or nothing is refused. Where there is a count,
+ * it is 0 with a refusal.
+ */
+#ifndef ROUTES_H
+#define ROUTES_H
+
+#include <stddef.h>
+#include <stdint.h>
+
+#ifdef __cplusplus
+extern "C" {
+#endif
+
+#define ROUTES_NODES 256          /* the most nodes, and how many entries each of a tree's arrays has */
+#define ROUTES_LINKS 4096         /* the most links */
+#define ROUTES_ROWS 256           /* the most rows in a batch */
+#define ROUTES_UNREACHED 16777215 /* the distance of a node that isn't reached */
+#define ROUTES_NO_LINK 65535      /* stands where a link number is expected and there is no link */
+
+enum routes_answer {
+    ROUTES_ACCEPTED = 0,
+    ROUTES_WRONG_NODE_COUNT = 1,      /* node count 0 or over 256 */
+    ROUTES_WRONG_ROOT = 2,            /* root not below the node count */
+    ROUTES_WRONG_COLUMNS = 3,         /* columns of unequal length, or over 4,096 links */
+    ROUTES_WRONG_ENDS = 4,            /* a link's start or end not below the node count, or start = end; value: first such link */
+    ROUTES_WRONG_ORDER = 5,           /* a link's start is below the one before it; value: first such link */
+    ROUTES_TREE_UNFIT = 6,            /* the tree doesn't fit; value: smallest node that breaks a rule */
+    ROUTES_TOO_MANY_ROWS = 7,         /* over 256 rows */
+    ROUTES_ROW_NAMES_NO_LINK = 8,     /* a row names no link of the table; value: that row */
+    ROUTES_ROW_NAMES_LINK_AGAIN = 9,  /* a row names a link of an earlier row; value: that row */
+    ROUTES_ASKED_NO_NODE = 10,        /* asked node not below the node count */
+    ROUTES_ASKED_UNREACHED = 11,      /* asked node is unreached */
+    ROUTES_LIST_TOO_SHORT = 12        /* list under the node count (update) or under the path's length (path) */
+};
+
+/* The table of links, which every function takes first: the node count, the root, and for each link its start, its end
+ * and its cost, a column each. A link's number is its place. Starts never fall; a cost of 0 means that the link is down.
+ */
+
+/* Judges a table of links: refusals 1 to 5. Writes *value alone. */
+uint16_t routes_judge_links(
+    size_t nodes, size_t root,
+    const uint16_t *starts, size_t starts_len,
+    const uint16_t *ends, size_t ends_len,
+    const uint16_t *costs, size_t costs_len,
+    uint16_t *value);
+
+/* Judges whether a tree fits the table: refusals 1 to 6. Writes *value alone. */
+uint16_t routes_judge_tree(
+    size_t nodes, size_t root,
+    const uint16_t *starts, size_t starts_len,
+    const uint16_t *ends, size_t ends_len,
+    const uint16_t *costs, size_t costs_len,
+    const uint32_t *dist, const uint16_t *parent, const uint16_t *first,
+    uint16_t *value);
+
+/* Fresh build: refusals 1 to 5. Writes all 256 entries of dist, parent and first, which need not have been set: the
+ * fresh tree, or with a refusal the empty one, every node unreached and no links in it. */
+uint16_t routes_build(
+    size_t nodes, size_t root,
+    const uint16_t *starts, size_t starts_len,
+    const uint16_t *ends, size_t ends_len,
+    const uint16_t *costs, size_t costs_len,
+    uint32_t *dist, uint16_t *parent, uint16_t *first,
+    uint16_t *value);
+
+/* Update: refusals 1 to 9 and 12. The batch stands in two columns, link numbers and new costs; it has a row for each
+ * place that both have, so what the longer one has behind them isn't read. dist, parent and first hold the tree, which
+ * must fit the table as it stands.
+ *
+ * Accepted: the rows' costs are written into costs, whose other places stay; the tree becomes the next one; the changed
+ * nodes stand in rising order in the first *count places of list, whose other places stay.
+ * Refused: costs, the tree and list are as they were.
+ * A list of `nodes` places is enough. */
+uint16_t routes_update(
+    size_t nodes, size_t root,
+    const uint16_t *starts, size_t starts_len,
+    const uint16_t *ends, size_t ends_len,
+    uint16_t *costs, size_t costs_len,
+    const uint16_t *changed, size_t changed_len,
+    const uint16_t *newcosts, size_t newcosts_len,
+    uint32_t *dist, uint16_t *parent, uint16_t *first,
+    uint16_t *list, size_t list_len,
+    size_t *count, uint16_t *value);
+
+/* Path: refusals 1 to 6 and 10 to 12.
+ *
+ * Accepted: the link numbers from the root to the asked node stand in travel order in the first *count places of list,
+ * whose other places stay. The root's path is empty.
+ * Refused: list is as it was.
+ * A list of `nodes` - 1 places is enough. */
+uint16_t routes_path(
+    size_t nodes, size_t root,
+    const uint16_t *starts, size_t starts_len,
+    const uint16_t *ends, size_t ends_len,
+    const uint16_t *costs, size_t costs_len,
+    const uint32_t *dist, const uint16_t *parent, const uint16_t *first,
+    size_t node,
+    uint16_t *list, size_t list_len,
+    size_t *count, uint16_t *value);
+
+#ifdef __cplusplus
+}
+#endif
+
+#endif

@@ -1,0 +1,35 @@
+// The pier network: a fresh tree, two batches, a path, and a refusal.
+//
+//     make example
+use routes::{Change, Network, Refusal, Tree};
+
+fn show(what: &str, tree: &Tree) {
+    println!("{what}");
+    for node in 0..4 {
+        let link = |l: Option<u16>| l.map_or("-".to_string(), |l| l.to_string());
+        let distance = tree.distance(node).map_or("-".to_string(), |d| d.to_string());
+        println!(
+            "  node {node}: distance {distance}, parent {}, first {}",
+            link(tree.parent(node)),
+            link(tree.first(node))
+        );
+    }
+}
+
+fn main() -> Result<(), Refusal> {
+    let mut net = Network::with_links(
+        4,
+        0,
+        [(0, 1, 4), (0, 2, 7), (1, 0, 4), (1, 2, 2), (2, 0, 7), (2, 1, 2), (2, 3, 1), (3, 2, 1)],
+    );
+    let mut tree = Tree::build(&net)?;
+    show("fresh", &tree);
+    let moved = tree.update(&mut net, &[Change { link: 3, cost: 5 }, Change { link: 0, cost: 2 }])?;
+    show(&format!("link 3 to 5 with link 0 to 2: changed {moved:?}"), &tree);
+    let moved = tree.update(&mut net, &[Change { link: 3, cost: 6 }])?;
+    show(&format!("link 3 to 6: changed {moved:?}"), &tree);
+    println!("the path to node 3: links {:?}", tree.path(&net, 3)?);
+    let refusal = tree.update(&mut net, &[Change { link: 8, cost: 1 }]).unwrap_err();
+    println!("refusal {}: {refusal}", refusal.number());
+    Ok(())
+}

@@ -1,0 +1,230 @@
+// Compares the product, row by row, with an independent calculation: `reckon` works out each answer from nothing, by the
+// scope's words alone. What is compared: the number and value answered, the whole tree, the cost column, the lent list
+// with the places that must stay, the memory beside them, and the count.
+//
+//     make compare
+//
+// Seeds are fixed, so each run compares the same cases. On a difference it tells the seed and the smallest case found.
+// With a number behind it (`make compare FROM=100000000`) it takes the seeds from there on, and so compares other cases.
+#![forbid(unsafe_code)]
+
+mod case;
+mod make;
+mod pier;
+mod product;
+mod reckon;
+mod shrink;
+mod wrong;
+
+use case::{check, Ask, Batch, Case, Edit, Entry, Tally, JOBS};
+use make::{Dice, SHAPES};
+use product::{Archive, Product, Safe};
+use std::time::Instant;
+
+struct Comparison {
+    tally: Tally,
+    cases: u64,
+    began: Instant,
+}
+
+impl Comparison {
+    // One case; the end of the program if the product disagrees.
+    fn one(&mut self, product: &dyn Product, name: &str, seed: u64, case: &Case) {
+        self.cases += 1;
+        if check(product, case, &mut self.tally).is_ok() {
+            return;
+        }
+        let (case, why) = shrink::smallest(product, case);
+        println!("DIFFERS in {name}, seed {seed}: {why}");
+        println!("the smallest case found: {case:?}");
+        std::process::exit(1);
+    }
+
+    fn family(&mut self, name: &str, cases: impl FnOnce(&mut Comparison)) {
+        let (before, calls, began) = (self.cases, self.calls(), Instant::now());
+        cases(self);
+        println!(
+            "{name:<44} {:>8} cases {:>9} calls {:>5.1} s",
+            self.cases - before,
+            self.calls() - calls,
+            began.elapsed().as_secs_f32()
+        );
+    }
+
+    fn calls(&self) -> u64 {
+        self.tally.iter().flatten().sum()
+    }
+}
+
+// Every table of three nodes with so many links over these costs, from every root. All orders of links count.
+fn tiny(links: usize, prices: &[u16], mut each: impl FnMut(Case)) {
+    let pairs: [(u16, u16); 6] = [(0, 1), (0, 2), (1, 0), (1, 2), (2, 0), (2, 1)];
+    let tables = 6usize.pow(links as u32);
+    let columns = prices.len().pow(links as u32);
+    for code in 0..tables {
+        let table: Vec<_> = (0..links as u32).map(|k| pairs[code / 6usize.pow(k) % 6]).collect();
+        if table.windows(2).any(|two| two[1].0 < two[0].0) {
+            continue;
+        }
+        for column in 0..columns {
+            for root in 0..3 {
+                each(Case {
+                    nodes: 3,
+                    root,
+                    starts: table.iter().map(|pair| pair.0).collect(),
+                    ends: table.iter().map(|pair| pair.1).collect(),
+                    costs: (0..links as u32).map(|k| prices[column / prices.len().pow(k) % prices.len()]).collect(),
+                    ..Case::default()
+                });
+            }
+        }
+    }
+}
+
+fn row(link: usize, cost: u16) -> Batch {
+    Batch { links: vec![link as u16], costs: vec![cost], list: 3 }
+}
+
+fn tiny_singles(c: &mut Comparison, links: usize, prices: &[u16]) {
+    tiny(links, prices, |mut case| {
+        case.asks = (0..3).map(|node| Ask { node, list: 2 }).collect();
+        c.one(&Archive, "every tiny network", 0, &case);
+        case.asks.clear();
+        for link in 0..links {
+            for cost in prices {
+                case.batches = vec![row(link, *cost)];
+                c.one(&Archive, "every single change of every tiny network", 0, &case);
+            }
+        }
+    });
+}
+
+fn tiny_pairs(c: &mut Comparison) {
+    let prices = [0, 1, 2];
+    tiny(3, &prices, |case| {
+        for code in 0..81 {
+            let first = row(code % 3, prices[code / 3 % 3]);
+            let second = row(code / 9 % 3, prices[code / 27]);
+            let case = Case { batches: vec![first, second], ..case.clone() };
+            c.one(&Archive, "every two changes in turn", code as u64, &case);
+        }
+    });
+}
+
+fn every_damage(c: &mut Comparison, from: u64) {
+    for seed in from..from + 40 {
+        let mut dice = Dice::new(seed);
+        let shape = [0, 0, 5, 6][seed as usize % 4];
+        let whole = make::run(seed, shape, 0, 0);
+        let (_, tree) = reckon::build(&make::table(&whole));
+        for node in 0..reckon::NODES {
+            for entry in [Entry::Dist, Entry::Parent, Entry::First] {
+                for value in make::damages(&mut dice, &whole, &tree, node, entry) {
+                    let case = Case { edits: vec![Edit { node, entry, value }], ..whole.clone() };
+                    c.one(&Archive, "each single entry damaged", seed, &case);
+                }
+            }
+        }
+    }
+}
+
+// The sizes' ends.
+fn sizes(c: &mut Comparison) {
+    let chain = |nodes: usize| Case {
+        nodes,
+        starts: (0..255).collect(),
+        ends: (1..256).collect(),
+        costs: vec![65_535; 255],
+        asks: vec![Ask { node: 255, list: 255 }, Ask { node: 255, list: 254 }, Ask { node: 256, list: 256 }],
+        ..Case::default()
+    };
+    let stack = |links: usize, rows: usize| Case {
+        nodes: 2,
+        starts: vec![0; links],
+        ends: vec![1; links],
+        costs: (0..links).map(|k| 65_535 - k as u16 % 7).collect(),
+        batches: vec![
+            Batch { links: (0..rows as u16).collect(), costs: vec![65_534; rows], list: 2 },
+            Batch { links: (0..rows as u16).rev().collect(), costs: vec![1; rows], list: 1 },
+        ],
+        ..Case::default()
+    };
+    for nodes in [0, 1, 255, 256, 257] {
+        c.one(&Archive, "sizes", nodes as u64, &chain(nodes));
+        c.one(&Archive, "sizes", nodes as u64, &Case { nodes, ..Case::default() });
+    }
+    for links in [0, 1, 4_095, 4_096, 4_097, 70_000] {
+        for rows in [0, 1, 255, 256, 257] {
+            c.one(&Archive, "sizes", links as u64, &stack(links, rows));
+        }
+    }
+}
+
+// What needs no seed.
+fn fixed(c: &mut Comparison) {
+    c.family("the pier network, P1 to P12", |c| {
+        pier::cases().iter().zip(0..).for_each(|(case, at)| c.one(&Archive, "the pier network", at, case))
+    });
+    c.family("3 nodes, up to 3 links: every single change", |c| {
+        (0..=3).for_each(|links| tiny_singles(c, links, &[0, 1, 2, 65_534, 65_535]))
+    });
+    c.family("3 nodes, 4 links: every single change", |c| tiny_singles(c, 4, &[0, 1, 2]));
+    c.family("3 nodes, 3 links: every two changes in turn", tiny_pairs);
+    c.family("the sizes' ends", sizes);
+}
+
+fn seeded(c: &mut Comparison, from: u64) {
+    for (shape, name) in SHAPES.iter().enumerate() {
+        let many = [20_000, 1_000, 600, 600, 400, 8_000, 3_000, 120][shape];
+        c.family(&format!("{name}: runs of 8 batches"), |c| {
+            (from..from + many).for_each(|seed| c.one(&Archive, name, seed, &make::run(seed, shape, 8, 4)))
+        });
+    }
+    for (shape, name) in SHAPES.iter().enumerate() {
+        let many = [120, 12, 9, 12, 12, 80, 60, 4][shape];
+        c.family(&format!("{name}: runs of 300 batches"), |c| {
+            let from = from + 1_000_000;
+            (from..from + many).for_each(|seed| c.one(&Archive, name, seed, &make::run(seed, shape, 300, 4)))
+        });
+    }
+    c.family("from any tree that fits", |c| {
+        for seed in from..from + 6_000 {
+            let shape = [0, 5, 6, 0, 5, 1][seed as usize % 6];
+            c.one(&Archive, "from any tree that fits", seed, &make::from_another(seed, shape, 4));
+        }
+    });
+    c.family("each single entry damaged", |c| every_damage(c, from));
+    c.family("several entries damaged", |c| {
+        for seed in from..from + 30_000 {
+            let shape = [0, 5, 6, 0][seed as usize % 4];
+            c.one(&Archive, "several entries damaged", seed, &make::damaged(seed, shape));
+        }
+        for seed in from + 30_000..from + 31_000 {
+            let shape = [1, 2, 3, 4][seed as usize % 4];
+            c.one(&Archive, "several entries damaged", seed, &make::damaged(seed, shape));
+        }
+    });
+    c.family("malformed tables, batches and asks", |c| {
+        (from..from + 60_000).for_each(|seed| c.one(&Archive, "malformed", seed, &make::malformed(seed)))
+    });
+    c.family("the safe interface", |c| {
+        for seed in from + 2_000_000..from + 2_004_000 {
+            c.one(&Safe, "the safe interface, runs", seed, &make::run(seed, [0, 5, 6][seed as usize % 3], 8, 4));
+            c.one(&Safe, "the safe interface, damaged", seed, &make::damaged(seed, 0));
+            c.one(&Safe, "the safe interface, malformed", seed, &make::malformed(seed));
+        }
+    });
+}
+
+fn main() {
+    let from = std::env::args().nth(1).map_or(0, |word| word.parse().expect("the first seed, a number"));
+    let mut c = Comparison { tally: Tally::default(), cases: 0, began: Instant::now() };
+    fixed(&mut c);
+    seeded(&mut c, from);
+    println!("\ncalls by answer {}", (0..13).map(|n| format!("{n:>9}")).collect::<String>());
+    for (job, counts) in JOBS.iter().zip(c.tally) {
+        println!("{job:<16}{}", counts.map(|n| format!("{n:>9}")).concat());
+    }
+    wrong::all_found();
+    println!("{} cases, {} calls compared in {:.1} s: 0 differ", c.cases, c.calls(), c.began.elapsed().as_secs_f32());
+}

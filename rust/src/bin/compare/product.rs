@@ -1,0 +1,130 @@
+// The product, through the C functions, and through the safe interface that stands on them.
+use crate::reckon::{Table, Told, Tree};
+use routes::{ffi, Change, Network, Refusal};
+
+pub trait Product {
+    fn judge_links(&self, t: &Table) -> Told;
+    fn judge_tree(&self, t: &Table, tree: &Tree) -> Told;
+    fn build(&self, t: &Table, tree: &mut Tree) -> Told;
+    // `t.costs` is what stands in `costs` before the call.
+    fn update(
+        &self,
+        t: &Table,
+        costs: &mut [u16],
+        links: &[u16],
+        prices: &[u16],
+        tree: &mut Tree,
+        list: &mut [u16],
+    ) -> (u16, u16, usize);
+    fn path(&self, t: &Table, tree: &Tree, asked: usize, list: &mut [u16]) -> (u16, u16, usize);
+}
+
+// The archive's functions.
+pub struct Archive;
+
+impl Product for Archive {
+    fn judge_links(&self, t: &Table) -> Told {
+        let told = ffi::judge_links(t.nodes, t.root, t.starts, t.ends, t.costs);
+        (told.number, told.value)
+    }
+
+    fn judge_tree(&self, t: &Table, tree: &Tree) -> Told {
+        let told = ffi::judge_tree(t.nodes, t.root, t.starts, t.ends, t.costs, &tree.dist, &tree.parent, &tree.first);
+        (told.number, told.value)
+    }
+
+    fn build(&self, t: &Table, tree: &mut Tree) -> Told {
+        let Tree { dist, parent, first } = tree;
+        let told = ffi::build(t.nodes, t.root, t.starts, t.ends, t.costs, dist, parent, first);
+        (told.number, told.value)
+    }
+
+    fn update(
+        &self,
+        t: &Table,
+        costs: &mut [u16],
+        links: &[u16],
+        prices: &[u16],
+        tree: &mut Tree,
+        list: &mut [u16],
+    ) -> (u16, u16, usize) {
+        let Tree { dist, parent, first } = tree;
+        let told = ffi::update(t.nodes, t.root, t.starts, t.ends, costs, links, prices, dist, parent, first, list);
+        (told.number, told.value, told.count)
+    }
+
+    fn path(&self, t: &Table, tree: &Tree, asked: usize, list: &mut [u16]) -> (u16, u16, usize) {
+        let Tree { dist, parent, first } = tree;
+        let told = ffi::path(t.nodes, t.root, t.starts, t.ends, t.costs, dist, parent, first, asked, list);
+        (told.number, told.value, told.count)
+    }
+}
+
+// The safe interface. A list that it hands back is copied to the lent one; where that is too short, which the interface
+// has no words for, the archive is asked instead.
+pub struct Safe;
+
+fn net(t: &Table, costs: &[u16]) -> Network {
+    Network { nodes: t.nodes, root: t.root, starts: t.starts.to_vec(), ends: t.ends.to_vec(), costs: costs.to_vec() }
+}
+
+fn value(tree: &Tree) -> routes::Tree {
+    routes::Tree { distances: tree.dist, parents: tree.parent, firsts: tree.first }
+}
+
+fn told<T>(answer: Result<T, Refusal>) -> (Told, Option<T>) {
+    match answer {
+        Ok(good) => ((0, 0), Some(good)),
+        Err(refusal) => ((refusal.number(), refusal.value()), None),
+    }
+}
+
+impl Product for Safe {
+    fn judge_links(&self, t: &Table) -> Told {
+        told(net(t, t.costs).judge()).0
+    }
+
+    fn judge_tree(&self, t: &Table, tree: &Tree) -> Told {
+        told(value(tree).judge(&net(t, t.costs))).0
+    }
+
+    fn build(&self, t: &Table, tree: &mut Tree) -> Told {
+        let (told, built) = told(routes::Tree::build(&net(t, t.costs)));
+        let built = built.unwrap_or_else(routes::Tree::empty);
+        *tree = Tree { dist: built.distances, parent: built.parents, first: built.firsts };
+        told
+    }
+
+    fn update(
+        &self,
+        t: &Table,
+        costs: &mut [u16],
+        links: &[u16],
+        prices: &[u16],
+        tree: &mut Tree,
+        list: &mut [u16],
+    ) -> (u16, u16, usize) {
+        if list.len() < t.nodes {
+            return Archive.update(t, costs, links, prices, tree, list);
+        }
+        let batch: Vec<Change> =
+            links.iter().zip(prices).map(|(link, cost)| Change { link: *link, cost: *cost }).collect();
+        let (mut net, mut moving) = (net(t, costs), value(tree));
+        let (told, changed) = told(moving.update(&mut net, &batch));
+        let changed = changed.unwrap_or_default();
+        *tree = Tree { dist: moving.distances, parent: moving.parents, first: moving.firsts };
+        costs.copy_from_slice(&net.costs);
+        list[..changed.len()].copy_from_slice(&changed);
+        (told.0, told.1, changed.len())
+    }
+
+    fn path(&self, t: &Table, tree: &Tree, asked: usize, list: &mut [u16]) -> (u16, u16, usize) {
+        let (told, links) = told(value(tree).path(&net(t, t.costs), asked));
+        let links = links.unwrap_or_default();
+        if list.len() < links.len() {
+            return Archive.path(t, tree, asked, list);
+        }
+        list[..links.len()].copy_from_slice(&links);
+        (told.0, told.1, links.len())
+    }
+}

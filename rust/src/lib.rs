@@ -1,0 +1,47 @@
+//! The route calculation for programs in Rust: judging a table of links, a fresh tree of shortest routes, the update of
+//! a tree after a batch of cost changes, and the path to a node. The work is done by the proved functions of
+//! `crates/border`; this crate lends them memory and reads their answers.
+//!
+//! ```
+//! use routes::{Change, Network, Tree};
+//!
+//! // The pier network: start, end and cost of each link, in rising order of the starts.
+//! let mut net = Network::with_links(
+//!     4,
+//!     0,
+//!     [(0, 1, 4), (0, 2, 7), (1, 0, 4), (1, 2, 2), (2, 0, 7), (2, 1, 2), (2, 3, 1), (3, 2, 1)],
+//! );
+//! let mut tree = Tree::build(&net)?;
+//! assert_eq!(tree.distance(3), Some(7));
+//! assert_eq!(tree.path(&net, 3)?, [0, 3, 6]);
+//!
+//! // Two costs change at once: the nodes whose route or distance moved are told.
+//! let moved = tree.update(&mut net, &[Change { link: 3, cost: 5 }, Change { link: 0, cost: 2 }])?;
+//! assert_eq!(moved, [1, 2, 3]);
+//! assert_eq!(tree.distance(3), Some(8));
+//! assert_eq!(net.costs[3], 5);
+//! # Ok::<(), routes::Refusal>(())
+//! ```
+#![deny(unsafe_code)]
+#![warn(missing_docs)]
+
+#[rustfmt::skip]
+pub mod ffi;
+mod network;
+mod refusal;
+mod tree;
+
+pub use network::{Change, Network};
+pub use refusal::Refusal;
+pub use tree::Tree;
+
+/// The most nodes that a network may have, and how many rows a tree has.
+pub const NODES: usize = 256;
+/// The most links that a network may have.
+pub const LINKS: usize = 4_096;
+/// The most rows that a batch may have.
+pub const ROWS: usize = 256;
+/// The distance of a node that isn't reached.
+pub const UNREACHED: u32 = 16_777_215;
+/// Stands where a link number is expected and there is no link.
+pub const NO_LINK: u16 = 65_535;

@@ -1,0 +1,133 @@
+use std::fmt;
+
+/// Why a call was refused. A refused call has changed nothing.
+///
+/// ```
+/// use routes::{Network, Refusal};
+///
+/// let net = Network::with_links(3, 0, [(0, 1, 5), (1, 1, 5)]);
+/// let refusal = net.judge().unwrap_err();
+/// assert_eq!(refusal, Refusal::WrongEnds { link: 1 });
+/// assert_eq!((refusal.number(), refusal.value()), (4, 1));
+/// assert_eq!(refusal.to_string(), "link 1 starts or ends at no node, or leads from a node to itself");
+/// ```
+#[derive(Debug, Clone, Copy, PartialEq, Eq, Hash)]
+pub enum Refusal {
+    /// 1: the node count is 0 or over 256.
+    WrongNodeCount,
+    /// 2: the root isn't below the node count.
+    WrongRoot,
+    /// 3: the columns are of unequal length, or there are over 4,096 links.
+    WrongColumns,
+    /// 4: a link's start or end isn't below the node count, or they are the same.
+    WrongEnds {
+        /// The first such link.
+        link: u16,
+    },
+    /// 5: a link's start is below the one before it.
+    WrongOrder {
+        /// The first such link.
+        link: u16,
+    },
+    /// 6: the tree doesn't fit the network.
+    TreeUnfit {
+        /// The smallest node that breaks a rule.
+        node: u16,
+    },
+    /// 7: the batch has over 256 rows.
+    TooManyRows,
+    /// 8: a row names no link of the table.
+    RowNamesNoLink {
+        /// The first bad row.
+        row: u16,
+    },
+    /// 9: a row names a link of an earlier row.
+    RowNamesLinkAgain {
+        /// The first bad row.
+        row: u16,
+    },
+    /// 10: the asked node isn't below the node count.
+    AskedNoNode,
+    /// 11: the asked node is unreached.
+    AskedUnreached,
+    /// 12: the lent list is too short. It doesn't arise where a list is handed back instead of lent.
+    ListTooShort,
+}
+
+impl Refusal {
+    /// The refusal's number, from 1 to 12.
+    pub fn number(self) -> u16 {
+        match self {
+            Refusal::WrongNodeCount => 1,
+            Refusal::WrongRoot => 2,
+            Refusal::WrongColumns => 3,
+            Refusal::WrongEnds { .. } => 4,
+            Refusal::WrongOrder { .. } => 5,
+            Refusal::TreeUnfit { .. } => 6,
+            Refusal::TooManyRows => 7,
+            Refusal::RowNamesNoLink { .. } => 8,
+            Refusal::RowNamesLinkAgain { .. } => 9,
+            Refusal::AskedNoNode => 10,
+            Refusal::AskedUnreached => 11,
+            Refusal::ListTooShort => 12,
+        }
+    }
+
+    /// The link, node or row that the refusal carries, and 0 where it carries none.
+    pub fn value(self) -> u16 {
+        match self {
+            Refusal::WrongEnds { link } | Refusal::WrongOrder { link } => link,
+            Refusal::TreeUnfit { node } => node,
+            Refusal::RowNamesNoLink { row } | Refusal::RowNamesLinkAgain { row } => row,
+            _ => 0,
+        }
+    }
+
+    /// What a number and the value beside it mean: nothing for 0, which is acceptance.
+    ///
+    /// # Panics
+    /// On a number over 12, which no job gives.
+    pub fn told(number: u16, value: u16) -> Result<(), Refusal> {
+        Err(match number {
+            0 => return Ok(()),
+            1 => Refusal::WrongNodeCount,
+            2 => Refusal::WrongRoot,
+            3 => Refusal::WrongColumns,
+            4 => Refusal::WrongEnds { link: value },
+            5 => Refusal::WrongOrder { link: value },
+            6 => Refusal::TreeUnfit { node: value },
+            7 => Refusal::TooManyRows,
+            8 => Refusal::RowNamesNoLink { row: value },
+            9 => Refusal::RowNamesLinkAgain { row: value },
+            10 => Refusal::AskedNoNode,
+            11 => Refusal::AskedUnreached,
+            12 => Refusal::ListTooShort,
+            _ => panic!("no refusal has the number {number}"),
+        })
+    }
+}
+
+impl fmt::Display for Refusal {
+    fn fmt(&self, f: &mut fmt::Formatter<'_>) -> fmt::Result {
+        match self {
+            Refusal::WrongNodeCount => write!(f, "the node count is 0 or over 256"),
+            Refusal::WrongRoot => write!(f, "the root isn't below the node count"),
+            Refusal::WrongColumns => write!(f, "the columns are of unequal length, or there are over 4,096 links"),
+            Refusal::WrongEnds { link } => {
+                write!(f, "link {link} starts or ends at no node, or leads from a node to itself")
+            }
+            Refusal::WrongOrder { link } => write!(f, "link {link} has a start below that of the link before it"),
+            Refusal::TreeUnfit { node } => {
+                write!(f, "the tree doesn't fit the network: node {node} is the first that breaks a rule")
+            }
+            Refusal::TooManyRows => write!(f, "the batch has over 256 rows"),
+            Refusal::RowNamesNoLink { row } => write!(f, "row {row} names no link of the network"),
+            Refusal::RowNamesLinkAgain { row } => write!(f, "row {row} names a link of an earlier row"),
+            Refusal::AskedNoNode => write!(f, "the asked node isn't below the node count"),
+            Refusal::AskedUnreached => write!(f, "the asked node is unreached"),
+            Refusal::ListTooShort => write!(f, "the lent list is too short"),
+        }
+    }
+}
+
+impl std::error::Error for Refusal {}

@@ -1,0 +1,168 @@
+use crate::{ffi, Change, Network, Refusal, NODES, NO_LINK, UNREACHED};
+use std::fmt;
+
+/// A tree of shortest routes: for each of 256 nodes a distance, a parent link and a first link. Any numbers may stand in
+/// it: every job judges it, against the network that it is given.
+#[derive(Clone, PartialEq, Eq)]
+pub struct Tree {
+    /// The sum of the costs from the root, or [`UNREACHED`].
+    pub distances: [u32; NODES],
+    /// The last link of each node's route, or [`NO_LINK`].
+    pub parents: [u16; NODES],
+    /// The first link of each node's route, or [`NO_LINK`].
+    pub firsts: [u16; NODES],
+}
+
+impl Tree {
+    /// Every node unreached, and no links.
+    pub fn empty() -> Tree {
+        Tree { distances: [UNREACHED; NODES], parents: [NO_LINK; NODES], firsts: [NO_LINK; NODES] }
+    }
+
+    /// A fresh tree: every reached node but the root takes its tight link of smallest number. Refusals 1 to 5.
+    ///
+    /// ```
+    /// use routes::{Network, Refusal, Tree};
+    ///
+    /// let tree = Tree::build(&Network::with_links(3, 0, [(0, 1, 4), (0, 1, 4)]))?;
+    /// assert_eq!((tree.distance(1), tree.parent(1), tree.first(1)), (Some(4), Some(0), Some(0)));
+    /// assert_eq!(tree.distance(2), None);
+    /// assert_eq!(Tree::build(&Network::with_links(0, 0, [])), Err(Refusal::WrongNodeCount));
+    /// # Ok::<(), Refusal>(())
+    /// ```
+    pub fn build(net: &Network) -> Result<Tree, Refusal> {
+        let mut tree = Tree::empty();
+        ffi::build(
+            net.nodes,
+            net.root,
+            &net.starts,
+            &net.ends,
+            &net.costs,
+            &mut tree.distances,
+            &mut tree.parents,
+            &mut tree.firsts,
+        )
+        .refusal()?;
+        Ok(tree)
+    }
+
+    /// Whether the tree fits the network: refusals 1 to 6.
+    ///
+    /// ```
+    /// use routes::{Network, Refusal, Tree};
+    ///
+    /// let net = Network::with_links(2, 0, [(0, 1, 4)]);
+    /// let mut tree = Tree::build(&net)?;
+    /// assert_eq!(tree.judge(&net), Ok(()));
+    /// tree.distances[1] = 3;
+    /// assert_eq!(tree.judge(&net), Err(Refusal::TreeUnfit { node: 1 }));
+    /// # Ok::<(), Refusal>(())
+    /// ```
+    pub fn judge(&self, net: &Network) -> Result<(), Refusal> {
+        ffi::judge_tree(
+            net.nodes,
+            net.root,
+            &net.starts,
+            &net.ends,
+            &net.costs,
+            &self.distances,
+            &self.parents,
+            &self.firsts,
+        )
+        .refusal()
+    }
+
+    /// Writes a batch's costs into the network, brings the tree up to them, and hands back the changed nodes, in rising
+    /// order. All rows take effect together. A node whose parent link is still tight keeps it. Refusals 1 to 9, which
+    /// leave the network and the tree as they were.
+    ///
+    /// ```
+    /// use routes::{Change, Network, Refusal, Tree};
+    ///
+    /// let mut net = Network::with_links(2, 0, [(0, 1, 4), (0, 1, 6)]);
+    /// let mut tree = Tree::build(&net)?;
+    /// assert_eq!(tree.update(&mut net, &[Change { link: 0, cost: 0 }])?, [1]);
+    /// assert_eq!(tree.parent(1), Some(1));
+    ///
+    /// let twice = [Change { link: 1, cost: 2 }, Change { link: 1, cost: 3 }];
+    /// assert_eq!(tree.update(&mut net, &twice), Err(Refusal::RowNamesLinkAgain { row: 1 }));
+    /// assert_eq!(net.costs, [0, 6]);
+    /// # Ok::<(), Refusal>(())
+    /// ```
+    pub fn update(&mut self, net: &mut Network, batch: &[Change]) -> Result<Vec<u16>, Refusal> {
+        let links: Vec<u16> = batch.iter().map(|row| row.link).collect();
+        let costs: Vec<u16> = batch.iter().map(|row| row.cost).collect();
+        let mut list = vec![0; NODES];
+        let told = ffi::update(
+            net.nodes,
+            net.root,
+            &net.starts,
+            &net.ends,
+            &mut net.costs,
+            &links,
+            &costs,
+            &mut self.distances,
+            &mut self.parents,
+            &mut self.firsts,
+            &mut list,
+        );
+        told.refusal()?;
+        list.truncate(told.count);
+        Ok(list)
+    }
+
+    /// The links from the root to a node, in travel order. Refusals 1 to 6, 10 and 11.
+    ///
+    /// ```
+    /// use routes::{Network, Refusal, Tree};
+    ///
+    /// let net = Network::with_links(4, 0, [(0, 1, 4), (1, 2, 2)]);
+    /// let tree = Tree::build(&net)?;
+    /// assert_eq!(tree.path(&net, 2)?, [0, 1]);
+    /// assert_eq!(tree.path(&net, 0)?, []);
+    /// assert_eq!(tree.path(&net, 3), Err(Refusal::AskedUnreached));
+    /// assert_eq!(tree.path(&net, 4), Err(Refusal::AskedNoNode));
+    /// # Ok::<(), Refusal>(())
+    /// ```
+    pub fn path(&self, net: &Network, node: usize) -> Result<Vec<u16>, Refusal> {
+        let mut list = vec![0; NODES];
+        let told = ffi::path(
+            net.nodes,
+            net.root,
+            &net.starts,
+            &net.ends,
+            &net.costs,
+            &self.distances,
+            &self.parents,
+            &self.firsts,
+            node,
+            &mut list,
+        );
+        told.refusal()?;
+        list.truncate(told.count);
+        Ok(list)
+    }
+
+    /// A node's distance from the root, if the tree reaches it.
+    pub fn distance(&self, node: usize) -> Option<u32> {
+        self.distances.get(node).copied().filter(|distance| *distance != UNREACHED)
+    }
+
+    /// The last link of a node's route: none for the root and for a node that isn't reached.
+    pub fn parent(&self, node: usize) -> Option<u16> {
+        self.parents.get(node).copied().filter(|link| *link != NO_LINK)
+    }
+
+    /// The first link of a node's route: none for the root and for a node that isn't reached.
+    pub fn first(&self, node: usize) -> Option<u16> {
+        self.firsts.get(node).copied().filter(|link| *link != NO_LINK)
+    }
+}
+
+/// Tells the rows that aren't empty.
+impl fmt::Debug for Tree {
+    fn fmt(&self, f: &mut fmt::Formatter<'_>) -> fmt::Result {
+        let rows = (0..NODES).map(|v| (v, (self.distances[v], self.parents[v], self.firsts[v])));
+        f.debug_map().entries(rows.filter(|row| row.1 != (UNREACHED, NO_LINK, NO_LINK))).finish()
+    }
+}

@@ -1,0 +1,89 @@
+/* The pier network through the C functions: P1, P2, P4, a path and a refusal, each compared with the rows that it must
+ * give.
+ *
+ *     make example
+ */
+#include "routes.h"
+#include <stdio.h>
+#include <string.h>
+
+enum { NODES = 4, LINKS = 8 };
+#define NO ROUTES_NO_LINK
+
+static const uint16_t starts[LINKS] = {0, 0, 1, 1, 2, 2, 2, 3};
+static const uint16_t ends[LINKS] = {1, 2, 0, 2, 0, 1, 3, 2};
+static uint16_t costs[LINKS] = {4, 7, 4, 2, 7, 2, 1, 1};
+
+static uint32_t dist[ROUTES_NODES];
+static uint16_t parent[ROUTES_NODES], first[ROUTES_NODES];
+static uint16_t list[ROUTES_NODES];
+static size_t count;
+static uint16_t value;
+static int wrong;
+
+static void hold(int right, const char *what) {
+    printf("%s %s\n", right ? "ok   " : "WRONG", what);
+    wrong += !right;
+}
+
+/* The first four rows are those given, and every other is empty. */
+static int rows(const uint32_t d[NODES], const uint16_t p[NODES], const uint16_t f[NODES]) {
+    for (size_t v = 0; v < ROUTES_NODES; v++) {
+        int in = v < NODES;
+        if (dist[v] != (in ? d[v] : ROUTES_UNREACHED) || parent[v] != (in ? p[v] : NO) || first[v] != (in ? f[v] : NO))
+            return 0;
+    }
+    return 1;
+}
+
+/* The list starts with these, and the places behind them are as they were set. */
+static int listed(size_t n, const uint16_t *nodes) {
+    if (count != n || memcmp(list, nodes, n * sizeof *nodes) != 0)
+        return 0;
+    for (size_t i = n; i < ROUTES_NODES; i++)
+        if (list[i] != 7777)
+            return 0;
+    return 1;
+}
+
+static uint16_t update(size_t n, const uint16_t *links, const uint16_t *prices) {
+    for (size_t i = 0; i < ROUTES_NODES; i++)
+        list[i] = 7777;
+    return routes_update(NODES, 0, starts, LINKS, ends, LINKS, costs, LINKS, links, n, prices, n, dist, parent, first,
+                         list, ROUTES_NODES, &count, &value);
+}
+
+int main(void) {
+    hold(routes_judge_links(NODES, 0, starts, LINKS, ends, LINKS, costs, LINKS, &value) == ROUTES_ACCEPTED,
+         "the table is accepted");
+
+    hold(routes_build(NODES, 0, starts, LINKS, ends, LINKS, costs, LINKS, dist, parent, first, &value) == 0 && value == 0,
+         "P1 is accepted");
+    hold(rows((uint32_t[]){0, 4, 6, 7}, (uint16_t[]){NO, 0, 3, 6}, (uint16_t[]){NO, 0, 0, 0}), "P1's rows");
+
+    hold(update(2, (uint16_t[]){3, 0}, (uint16_t[]){5, 2}) == 0, "P2 is accepted");
+    hold(rows((uint32_t[]){0, 2, 7, 8}, (uint16_t[]){NO, 0, 3, 6}, (uint16_t[]){NO, 0, 0, 0}), "P2's rows");
+    hold(listed(3, (uint16_t[]){1, 2, 3}), "P2's list");
+    hold(costs[3] == 5 && costs[0] == 2, "P2's costs");
+
+    hold(update(1, (uint16_t[]){3}, (uint16_t[]){6}) == 0, "P4 is accepted");
+    hold(rows((uint32_t[]){0, 2, 7, 8}, (uint16_t[]){NO, 0, 1, 6}, (uint16_t[]){NO, 0, 1, 1}), "P4's rows");
+    hold(listed(2, (uint16_t[]){2, 3}), "P4's list");
+    hold(routes_judge_tree(NODES, 0, starts, LINKS, ends, LINKS, costs, LINKS, dist, parent, first, &value) == 0,
+         "P4's tree fits");
+
+    for (size_t i = 0; i < ROUTES_NODES; i++)
+        list[i] = 7777;
+    hold(routes_path(NODES, 0, starts, LINKS, ends, LINKS, costs, LINKS, dist, parent, first, 3, list, ROUTES_NODES,
+                     &count, &value) == 0 && listed(2, (uint16_t[]){1, 6}), "the path to node 3");
+
+    uint16_t before[LINKS];
+    memcpy(before, costs, sizeof costs);
+    hold(update(3, (uint16_t[]){3, 0, 3}, (uint16_t[]){1, 1, 1}) == ROUTES_ROW_NAMES_LINK_AGAIN && value == 2,
+         "rows for links 3, 0, 3: refusal 9, row 2");
+    hold(listed(0, list) && memcmp(before, costs, sizeof costs) == 0, "which leaves the list and the costs");
+    hold(rows((uint32_t[]){0, 2, 7, 8}, (uint16_t[]){NO, 0, 1, 6}, (uint16_t[]){NO, 0, 1, 1}), "and the tree");
+
+    printf("%d wrong\n", wrong);
+    return wrong != 0;
+}
