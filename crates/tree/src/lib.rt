@@ -80,13 +80,13 @@ fn judge_update<'a>(
 ) -> Answer
     ensures { λ r. ⌜ (told r ≡ judgeUpdate (table nodes root (now (starts .entry)) (now (ends .entry)) (now (costs .entry))) (arrays (now (dist .entry)) (now (parent .entry)) (now (first .entry))) (rowsOfColumns (now (changed .entry)) (now (newcosts .entry))) (now (list .entry))) × Whole (arrays (now (dist .entry)) (now (parent .entry)) (now (first .entry))) ⌝ }
 {
-    let answer = fit::judge_lent(nodes, root, starts, ends, costs, dist, parent, first);
-    if rules::number(answer) != 0 {
-        return answer;
+    let tree = fit::judge_lent(nodes, root, starts, ends, costs, dist, parent, first);
+    if rules::number(tree) != 0 {
+        return tree;
     }
-    let answer = batch::judge_batch(starts.len(), changed, newcosts);
-    if rules::number(answer) != 0 {
-        return answer;
+    let rows = batch::judge_batch(starts.len(), changed, newcosts);
+    if rules::number(rows) != 0 {
+        return rows;
     }
     if list.len() < nodes {
         return Answer::ListTooShort;
