@@ -1,52 +1,31 @@
 -- What the parts' answers say of the whole job. Assumes nothing.
-use mathlib.Core.Path.{_≡_, refl, sym, ap, _∙_}
-use mathlib.Core.Logic.{_≢_}
-use mathlib.Core.Bool.{Bool, true, false, not}
+use mathlib.Core.Path.{_≡_, refl, sym, _∙_}
 use mathlib.Core.List.{List}
 use Prim.Native.Nat.{ℕ, _≤_, _<_}
 use native.Mathlib.Omega.{arith}
 use native.Mathlib.Decide.{decLt, ℕ-discrete}
-use lib.Dec.{eqb, ltb, leb}
-use lib.ListN.{length, getD, List·getD-eq-default}
-use borrow.Author.Tests.{lt-ltb, le-ltb, le-leb, lt-leb}
-use Rattle.rules.specs.Net.{Net}
-use Rattle.rules.specs.Tree.{Rows, Reached, Fits}
-use Rattle.rules.specs.Tests.{reached}
-use Rattle.rules.specs.Columns.{Table, Tree, Proper, Whole, netOf, rowsOf, emptyTree, applied, after, unreached, noLink, mostCost}
-use Rattle.rules.specs.Refusals.{Verdict, accepted, refused, _then_, when, judgeLinks, judgeTree, judgeBatch, judgeRows, judgeUpdate, judgeAsked}
-use Rattle.rules.specs.Answers.{told}
-use Rattle.rules.specs.Jobs.{written, changedBelow, Built, built, not-built, Updated, updated, not-updated, Pathed, not-pathed}
+use lib.Dec.{ltb}
+use lib.ListN.{length}
+use borrow.Author.Tests.{lt-ltb}
+use Rattle.rules.specs.Tree.{Fits}
+use Rattle.rules.specs.Columns.{Table, Tree, Proper, Whole, netOf, rowsOf, emptyTree, applied, after, unreached}
+use Rattle.rules.specs.Refusals.{Verdict, accepted, refused, when, judgeLinks, judgeTree, judgeBatch, judgeUpdate, judgeAsked}
+use Rattle.rules.specs.Jobs.{changedBelow, Built, built, not-built, Updated, updated, not-updated, Pathed, not-pathed}
 use Rattle.rules.specs.Demands.{Narrow}
-use Rattle.rules.specs.declared.Answer.{Answer}
 use Rattle.rules.specs.declared.Change.{Change}
 use Rattle.rules.proofs.Sound.{fits-shortest, root-zero, walk-node}
 use Rattle.rules.proofs.Judged.{legal, links-proper, tree-accepted, not-refused, then-first, then-second}
 use Rattle.rules.proofs.OneOutcome.{tree-links, update-links, after-proper}
-use Rattle.rules.proofs.Demands.{Good, largest-distance}
+use Rattle.rules.proofs.Demands.{largest-distance}
+use Rattle.judge.proofs.Laws.{refusal}
 use Rattle.batch.specs.Rows.{Named}
 use Rattle.batch.proofs.Batches.{rows-named}
 use Rattle.changed.specs.Listed.{Listed}
 use Rattle.path.specs.Climb.{Traces}
 use Rattle.path.specs.declared.Traced.{Traced}
 use Rattle.path.specs.declared.Traced.the-variants.{Written, TooShort}
-use Rattle.path.proofs.Paths.{parentsOf, verdictOf, countOf, traces-pathed}
+use Rattle.path.proofs.Paths.{parentsOf, traces-pathed}
 use Rattle.grow.specs.Grown.{Grown, Old, Regrown}
-
--- ---- a verdict that is no acceptance
-
-pub record Refusal (v : Verdict) : Type 0 where
-  pub number : ℕ
-  pub value : ℕ
-  pub is : v ≡ refused number value
-
-refusal : (v : Verdict) → (v ≡ accepted → ⊥) → Refusal v
-refusal accepted n = absurd (n refl)
-refusal (refused number value) n = record { number = number; value = value; is = refl }
-
--- a first refusal decides
-stops : (v w : Verdict) → (v ≡ accepted → ⊥) → v ≡ v then w
-stops accepted w n = absurd (n refl)
-stops (refused number value) w n = refl
 
 -- ---- fresh build
 
@@ -61,51 +40,6 @@ module _ {t : Table} {v : Verdict} (is : v ≡ judgeLinks t) where
 
   pub build-accepted : v ≡ accepted → {tree : Tree} → Grown t tree → Built t v tree
   build-accepted a g = rw a (built (sym is ∙ a) (g .whole) (g .fresh))
-
--- ---- judging an update
-
-module _ (t : Table) (tree : Tree) (batch : List Change) (list : List ℕ) where
-  pub tree-refuses : {v : Verdict} → v ≡ judgeTree t tree → (v ≡ accepted → ⊥) → v ≡ judgeUpdate t tree batch list
-  unfolding judgeUpdate judgeBatch
-  tree-refuses {v} is n =
-      let r = refusal v n in
-      let tree : judgeTree t tree ≡ refused (r .number) (r .value) = sym is ∙ r .is in
-      rw tree (r .is)
-
-  pub batch-refuses : {v : Verdict} → v ≡ judgeBatch t tree batch → (v ≡ accepted → ⊥) → v ≡ judgeUpdate t tree batch list
-  unfolding judgeUpdate
-  batch-refuses {v} is n =
-      let r = refusal v n in
-      let rows : judgeBatch t tree batch ≡ refused (r .number) (r .value) = sym is ∙ r .is in
-      rw rows (r .is)
-
-  pub list-refuses : judgeBatch t tree batch ≡ accepted → length list < t .nodes → refused 12 0 ≡ judgeUpdate t tree batch list
-  unfolding judgeUpdate
-  list-refuses e l = rw (e, lt-ltb (length list) (t .nodes) l) refl
-
-  pub update-accepts : judgeBatch t tree batch ≡ accepted → t .nodes ≤ length list → accepted ≡ judgeUpdate t tree batch list
-  unfolding judgeUpdate
-  update-accepts e l = rw (e, le-ltb (length list) (t .nodes) l) refl
-
--- ---- judging what is asked
-
-module _ (t : Table) (tree : Tree) (node : ℕ) where
-  pub tree-refuses-asked : {v : Verdict} → v ≡ judgeTree t tree → (v ≡ accepted → ⊥) → v ≡ judgeAsked t tree node
-  unfolding judgeAsked
-  tree-refuses-asked {v} is n =
-      let r = refusal v n in
-      let tree : judgeTree t tree ≡ refused (r .number) (r .value) = sym is ∙ r .is in
-      rw tree (r .is)
-
-  pub node-refuses : judgeTree t tree ≡ accepted → t .nodes ≤ node → refused 10 0 ≡ judgeAsked t tree node
-  unfolding judgeAsked
-  node-refuses e l = rw (e, le-leb (t .nodes) node l) refl
-
-  pub unreached-decides : judgeTree t tree ≡ accepted → node < t .nodes → (b : Bool) → eqb (rowsOf tree .dist node) unreached ≡ b
-      → when b 11 ≡ judgeAsked t tree node
-  unfolding judgeAsked reached
-  unreached-decides e l true d = rw (e, lt-leb (t .nodes) node l, d) refl
-  unreached-decides e l false d = rw (e, lt-leb (t .nodes) node l, d) refl
 
 -- ---- an accepted update
 

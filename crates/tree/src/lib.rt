@@ -1,11 +1,9 @@
 // The tree of shortest routes, which travels by value, and the jobs over it. Inside a job its arrays are lent.
 ghost use mathlib.Core.Path.{_≡_};
 ghost use Prim.Native.Nat.{_<_};
-ghost use lib.Dec.{eqb};
-ghost use lib.ListN.{length, getD};
 ghost use Rattle.rules.specs.Answers.{told};
-ghost use Rattle.rules.specs.Columns.{Proper, Whole, table, arrays, emptyTree, unreached};
-ghost use Rattle.rules.specs.Refusals.{judgeTree, judgeUpdate, judgeAsked};
+ghost use Rattle.rules.specs.Columns.{Proper, table, emptyTree, unreached};
+ghost use Rattle.rules.specs.Refusals.{judgeTree};
 ghost use Rattle.rules.specs.Jobs.{Built, Updated, Pathed};
 ghost use Rattle.batch.specs.Rows.{rowsOfColumns};
 ghost use Rattle.grow.specs.Grown.{Grown};
@@ -62,70 +60,6 @@ fn grown(nodes: usize, root: usize, starts: &[u16], ends: &[u16], costs: &[u16])
         parent: parent,
         first: first,
     }
-}
-
-// Refusals 1 to 9 and 12, over lent arrays, which by their type are whole.
-fn judge_update<'a>(
-    nodes: usize,
-    root: usize,
-    starts: &[u16],
-    ends: &[u16],
-    costs: &[u16],
-    dist: &'a [u32; 256],
-    parent: &'a [u16; 256],
-    first: &'a [u16; 256],
-    changed: &[u16],
-    newcosts: &[u16],
-    list: &[u16],
-) -> Answer
-    ensures { λ r. ⌜ (told r ≡ judgeUpdate (table nodes root (now (starts .entry)) (now (ends .entry)) (now (costs .entry))) (arrays (now (dist .entry)) (now (parent .entry)) (now (first .entry))) (rowsOfColumns (now (changed .entry)) (now (newcosts .entry))) (now (list .entry))) × Whole (arrays (now (dist .entry)) (now (parent .entry)) (now (first .entry))) ⌝ }
-{
-    let tree = fit::judge_lent(nodes, root, starts, ends, costs, dist, parent, first);
-    if rules::number(tree) != 0 {
-        return tree;
-    }
-    let rows = batch::judge_batch(starts.len(), changed, newcosts);
-    if rules::number(rows) != 0 {
-        return rows;
-    }
-    if list.len() < nodes {
-        return Answer::ListTooShort;
-    }
-    Answer::Accepted
-}
-
-fn is_unreached(dist: &[u32], node: usize) -> bool
-    requires { ⌜ node < length (now dist) ⌝ }
-    ensures { λ r. ⌜ r ≡ eqb (getD (now (dist .entry)) node 0) unreached ⌝ }
-{
-    dist[node] == 16_777_215
-}
-
-// Refusals 1 to 6, 10 and 11, over lent arrays, which by their type are whole.
-fn judge_asked<'a>(
-    nodes: usize,
-    root: usize,
-    starts: &[u16],
-    ends: &[u16],
-    costs: &[u16],
-    dist: &'a [u32; 256],
-    parent: &'a [u16; 256],
-    first: &'a [u16; 256],
-    node: usize,
-) -> Answer
-    ensures { λ r. ⌜ (told r ≡ judgeAsked (table nodes root (now (starts .entry)) (now (ends .entry)) (now (costs .entry))) (arrays (now (dist .entry)) (now (parent .entry)) (now (first .entry))) node) × Whole (arrays (now (dist .entry)) (now (parent .entry)) (now (first .entry))) ⌝ }
-{
-    let answer = fit::judge_lent(nodes, root, starts, ends, costs, dist, parent, first);
-    if rules::number(answer) != 0 {
-        return answer;
-    }
-    if nodes <= node {
-        return Answer::AskedNoNode;
-    }
-    if is_unreached(dist, node) {
-        return Answer::AskedUnreached;
-    }
-    Answer::Accepted
 }
 
 impl Tree {
@@ -216,7 +150,7 @@ impl Tree {
         let mut dist = self.dist;
         let mut parent = self.parent;
         let mut first = self.first;
-        let answer = judge_update(
+        let answer = judge::judge_update(
             nodes,
             root,
             starts,
@@ -280,7 +214,7 @@ impl Tree {
     ) -> PathTold
         ensures { λ r. ⌜ Pathed (table nodes root (now (starts .entry)) (now (ends .entry)) (now (costs .entry))) (valueOf self) node (now (list .entry)) (told (r .answer)) (now (list .exit)) (r .count) ⌝ }
     {
-        let answer = judge_asked(
+        let answer = judge::judge_asked(
             nodes,
             root,
             starts,

@@ -1,4 +1,4 @@
--- `tree::judge_asked` meets its contract: tree, node and its distance are asked in the order of their numbers.
+-- `judge::judge_asked` meets its contract: tree, node and its distance are asked in the order of their numbers.
 -- Assumes nothing.
 use mathlib.Core.Path.{_≡_, refl, sym, ap, _∙_}
 use Prim.Native.Nat.{_<_}
@@ -10,9 +10,9 @@ use Rattle.rules.specs.Columns.{Table, Tree, Whole, table, arrays, rowsOf, unre
 use Rattle.rules.specs.Refusals.{accepted, judgeTree}
 use Rattle.rules.proofs.OneOutcome.{number-accepts, number-refuses, tree-links}
 use Rattle.rules.proofs.Logic.{getD-any}
-use Rattle.tree.proofs.Laws.{tree-refuses-asked, node-refuses, unreached-decides}
-use Rattle.tree.proofs.judge_asked.Statement.{statement}
-use Rattle.tree.proofs.judge_asked.Tie as tie
+use Rattle.judge.proofs.Laws.{tree-refuses-asked, node-refuses, unreached-decides}
+use Rattle.judge.proofs.judge_asked.Statement.{statement}
+use Rattle.judge.proofs.judge_asked.Tie as tie
 
 abbrev table-of : tie.Start → Table
 table-of c = table (c .args .nodes) (c .args .root) (c .args .starts .now) (c .args .ends .now) (c .args .costs .now)

@@ -1,4 +1,4 @@
--- `tree::judge_update` meets its contract: tree, rows and list are asked in the order of their numbers. Assumes nothing.
+-- `judge::judge_update` meets its contract: tree, rows and list are asked in the order of their numbers. Assumes nothing.
 use mathlib.Core.Path.{_≡_, refl, sym, _∙_}
 use native.Mathlib.Omega.{arith}
 use borrow.Author.Needs.{needs}
@@ -7,9 +7,9 @@ use Rattle.rules.specs.Refusals.{accepted, judgeTree, judgeBatch}
 use Rattle.rules.proofs.OneOutcome.{number-accepts, number-refuses, tree-links}
 use Rattle.batch.specs.Rows.{rowsOfColumns}
 use Rattle.batch.proofs.Batches.{batch-decides}
-use Rattle.tree.proofs.Laws.{tree-refuses, batch-refuses, list-refuses, update-accepts}
-use Rattle.tree.proofs.judge_update.Statement.{statement}
-use Rattle.tree.proofs.judge_update.Tie as tie
+use Rattle.judge.proofs.Laws.{tree-refuses, batch-refuses, list-refuses, update-accepts}
+use Rattle.judge.proofs.judge_update.Statement.{statement}
+use Rattle.judge.proofs.judge_update.Tie as tie
 
 abbrev table-of : tie.Start → Table
 table-of c = table (c .args .nodes) (c .args .root) (c .args .starts .now) (c .args .ends .now) (c .args .costs .now)
