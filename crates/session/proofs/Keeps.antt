@@ -1,18 +1,19 @@
 -- What holds between records is kept by every record. Assumes nothing.
 use mathlib.Core.Path.{_≡_, refl, sym, ap, _∙_}
 use mathlib.Core.Bool.{Bool, true, false, not}
-use mathlib.Core.List.{List, []}
-use Prim.Native.Nat.{ℕ, _≤_, _<_}
+use mathlib.Core.List.{List, [], _∷_, _++_}
+use Prim.Native.Nat.{ℕ, zero, suc, _≤_, _<_}
 use native.Mathlib.Omega.{arith}
 use native.Mathlib.Decide.{decLt}
 use lib.Dec.{ltb}
-use lib.ListN.{length, set, take, length-set}
-use lib.Seq.{take-set-le}
+use lib.ListN.{length, set, take, length-append, length-take, length-drop, length-set}
+use lib.Seq.{length-take-le, length-front, take-set-le}
 use borrow.Author.Tests.{le-ltb}
-use Rattle.rules.specs.Tree.{Fits}
-use Rattle.rules.specs.Tests.{firstBelow, breaks}
+use Rattle.rules.specs.Tree.{Rows, Fits}
+use Rattle.rules.specs.Tests.{pick, firstBelow, breaks}
 use Rattle.rules.specs.Columns.{Table, Tree, table, netOf, rowsOf, after, mostLinks, mostRows, mostNodes}
 use Rattle.rules.specs.Refusals.{Verdict, accepted, refused, _then_, when, whenOne, judgeLinks, judgeTree, judgeRows, firstBadRow}
+use Rattle.rules.specs.Jobs.{differs, changedBelow}
 use Rattle.rules.specs.declared.Change.{Change as CostChange}
 use Rattle.rules.proofs.Logic.{First, first-is, T-true, T-false, true-false}
 use Rattle.rules.proofs.Check.{breaks-rule}
@@ -153,7 +154,7 @@ module _ {s : State} {starts ends costs : List ℕ} (t : TableStands s starts en
     no-rows = t .no-rows;
   }
 
-linked-phase : (v : Verdict) (s : State) → linked v s .state .phase ≡ s .phase
+pub linked-phase : (v : Verdict) (s : State) → linked v s .state .phase ≡ s .phase
 linked-phase accepted s = refl
 linked-phase (refused number value) s = refl
 
@@ -186,6 +187,10 @@ begun-stands {s} {r} {starts} {ends} {costs} {changed} {newcosts} t b =
 pub ready-phase : {s r : State} {k : Lists} → Ready s k r → r .phase ≡ Routing
 ready-phase (begins p b) = ap (λ (x : State). x .phase) (b .kept)
 ready-phase (stays p) = p
+
+pub met-stands : {s : State} {k : Lists} {r : State} → Holds s k → Ready s k r → treeIn r k
+met-stands h (begins p b) = begun-stands (table-of h p) b
+met-stands h (stays p) = tree-of h p
 
 -- ---- CHANGE
 
@@ -241,20 +246,47 @@ change-keeps {r} {k} p t w named cost =
 
 -- ---- APPLY
 
+-- the table then is the one with the rows' costs
+pub applied-table : {s : State} {starts ends costs changed newcosts list costs' list' : List ℕ} {d : Done} → Applied s starts ends costs changed newcosts list d costs' list'
+    → tableOf (d .state) starts ends costs' ≡ after (tableOf s starts ends costs) (waiting s changed newcosts)
+applied-table {s} {starts} {ends} {costs' = costs'} a =
+    ap (λ (x : State). tableOf x starts ends costs') (a .kept)
+    ∙ ap (λ (c : List ℕ). table (s .nodes) (s .root) (take (s .links) starts) (take (s .links) ends) c) (update-accept (a .updated) refl .costs)
+
+few-changed : (old new : Rows) (n : ℕ) → length (changedBelow old new n) ≤ n
+unfolding changedBelow
+few-changed old new zero = omega arith
+few-changed old new (suc n) = at (differs old new n) (few-changed old new n)
+  where
+    at : (b : Bool) → length (changedBelow old new n) ≤ n → length (changedBelow old new n ++ pick b (n ∷ []) []) ≤ suc n
+    at true h = omega (arith, length-append (changedBelow old new n) (n ∷ []))
+    at false h = omega (arith, length-append (changedBelow old new n) [])
+
 module _ {s : State} {starts ends costs changed newcosts list costs' list' : List ℕ} {d : Done} (t : TreeStands s starts ends costs changed newcosts)
-    (a : Applied s starts ends costs changed newcosts list d costs' list') (long : length costs' ≡ length costs) where
+    (a : Applied s starts ends costs changed newcosts list d costs' list') where
+  -- the column and the list keep their lengths
+  costs-kept : length costs' ≡ length costs
+  costs-kept =
+      let front = ap length (update-accept (a .updated) refl .costs) ∙ length-applied (waiting s changed newcosts) (take (s .links) costs) in
+      omega (arith, front, ap length (a .beyond), length-take (s .links) costs', length-take (s .links) costs, length-drop (s .links) costs', length-drop (s .links) costs, t .few-links, t .columns .costs-long)
+
+  list-kept : length list ≡ mostNodes → length list' ≡ length list
+  list-kept long =
+      let nodes = changedBelow (rowsOf (valueOf (s .tree))) (rowsOf (valueOf (d .state .tree))) (s .nodes) in
+      let fine = tree-links (tableOf s starts ends costs) (valueOf (s .tree)) (t .judged) in
+      let few : length nodes ≤ length list = omega (arith, few-changed (rowsOf (valueOf (s .tree))) (rowsOf (valueOf (d .state .tree))) (s .nodes), fine .few-nodes) in
+      ap length (update-accept (a .updated) refl .listed) ∙ length-front list nodes (length nodes) (sym (length-take-le (length nodes) list few))
+
   apply-stands : TreeStands (d .state) starts ends costs' changed newcosts
   apply-stands =
-      let up = update-accept (a .updated) refl in
-      let good = update-good up in
+      let good = update-good (update-accept (a .updated) refl) in
       let before = tableOf s starts ends costs in
       let batch = waiting s changed newcosts in
-      let same : tableOf (d .state) starts ends costs' ≡ after before batch =
-      ap (λ (x : State). tableOf x starts ends costs') (a .kept) ∙ ap (λ (c : List ℕ). table (s .nodes) (s .root) (take (s .links) starts) (take (s .links) ends) c) (up .costs) in
+      let same = applied-table a in
       let links : d .state .links ≡ s .links = ap (λ (x : State). x .links) (a .kept) in
       let rows : d .state .rows ≡ 0 = ap (λ (x : State). x .rows) (a .kept) in
       record {
-        columns = record { starts-long = t .columns .starts-long; ends-long = t .columns .ends-long; costs-long = long ∙ t .columns .costs-long };
+        columns = record { starts-long = t .columns .starts-long; ends-long = t .columns .ends-long; costs-long = costs-kept ∙ t .columns .costs-long };
         few-links = omega (arith, links, t .few-links);
         few-rows = omega (arith, rows);
         whole = good .whole;
@@ -265,20 +297,34 @@ module _ {s : State} {starts ends costs changed newcosts list costs' list' : Lis
       }
 
 pub apply-keeps : {r : State} {k : Lists} {d : Done} {costs list : List ℕ} → r .phase ≡ Routing → treeIn r k → lentIn k
-    → Applied r (k .starts) (k .ends) (k .costs) (k .changed) (k .newcosts) (k .list) d costs list → length costs ≡ length (k .costs) → length list ≡ length (k .list)
+    → Applied r (k .starts) (k .ends) (k .costs) (k .changed) (k .newcosts) (k .list) d costs list
     → Holds (d .state) (lists (k .starts) (k .ends) costs (k .changed) (k .newcosts) list)
-apply-keeps p t w a costs-kept list-kept =
-    routing (ap (λ (x : State). x .phase) (a .kept) ∙ p) (apply-stands t a costs-kept)
-    (record { changed-long = w .changed-long; newcosts-long = w .newcosts-long; list-long = list-kept ∙ w .list-long })
+apply-keeps p t w a =
+    routing (ap (λ (x : State). x .phase) (a .kept) ∙ p) (apply-stands t a)
+    (record { changed-long = w .changed-long; newcosts-long = w .newcosts-long; list-long = list-kept t a (w .list-long) ∙ w .list-long })
+
+-- ---- every record
+
+pub steps-keep : {s : State} {k : Lists} {item : Item} {d : Done} {l : Lists} → Holds s k → Steps s k item d l → Holds (d .state) l
+steps-keep h (out-of-order e) = h
+steps-keep h unknown = h
+steps-keep h cut = h
+steps-keep h (ended e) = h
+steps-keep h (network {nodes} {root} p) = network-keeps h p nodes root (judgeLinks (table nodes root [] [] [])) refl
+steps-keep h (link {start} {end} {cost} p) = link-keeps h p start end cost
+steps-keep h (change {link = named} {cost} ready) = change-keeps (ready-phase ready) (met-stands h ready) (lent-of h) named cost
+steps-keep h (apply ready a) = apply-keeps (ready-phase ready) (met-stands h ready) (lent-of h) a
+steps-keep h (ask ready) = routing (ready-phase ready) (met-stands h ready) (lent-of h)
 
 -- ---- each item
+
+both : {s : State} {k : Lists} {item : Item} {d : Done} {l : Lists} → Holds s k → Steps s k item d l → Steps s k item d l × Holds (d .state) l
+both h a = (a, steps-keep h a)
 
 module _ {s : State} {k : Lists} (h : Holds s k) {item : Item} (ordered : inOrder (s .phase) item ≡ true) where
   pub steps-network : {nodes root : ℕ} → item ≡ Network nodes root → {r : Done} → r ≡ networked (judgeLinks (table nodes root [] [] [])) s nodes root
       → Steps s k item r k × Holds (r .state) k
-  steps-network {nodes} {root} is {r} e =
-      let p = is-unread (s .phase) (ap (λ (i : Item). inOrder (s .phase) i) (sym is) ∙ ordered) in
-      (rw (is, e) (network p), rw e (network-keeps h p nodes root (judgeLinks (table nodes root [] [] [])) refl))
+  steps-network is e = both h (rw (is, e) (network (is-unread (s .phase) (ap (λ (i : Item). inOrder (s .phase) i) (sym is) ∙ ordered))))
 
   pub link-phase : {start end cost : ℕ} → item ≡ Link start end cost → s .phase ≡ Linking
   link-phase is = is-linking (s .phase) (ap (λ (i : Item). inOrder (s .phase) i) (sym is) ∙ ordered)
@@ -287,42 +333,37 @@ module _ {s : State} {k : Lists} (h : Holds s k) {item : Item} (ordered : inOrde
       → r ≡ linked (judgeLinks (table (s .nodes) (s .root) (oneMore (s .links) (k .starts) start) (oneMore (s .links) (k .ends) end) (oneMore (s .links) (k .costs) cost))) s
       → {starts ends costs : List ℕ} → starts ≡ set (k .starts) (s .links) start → ends ≡ set (k .ends) (s .links) end → costs ≡ set (k .costs) (s .links) cost
       → Steps s k item r (lists starts ends costs (k .changed) (k .newcosts) (k .list)) × Holds (r .state) (lists starts ends costs (k .changed) (k .newcosts) (k .list))
-  steps-link {start} {end} {cost} is e a b c =
-      let p = link-phase is in
-      (rw (is, e, a, b, c) (link p), rw (e, a, b, c) (link-keeps h p start end cost))
+  steps-link is e a b c = both h (rw (is, e, a, b, c) (link (link-phase is)))
 
   pub not-unread : (i : Item) → item ≡ i → inOrder (s .phase) i ≡ not (isUnread (s .phase)) → isUnread (s .phase) ≡ false
   not-unread i is e = not-true (isUnread (s .phase)) (sym e ∙ ap (λ (j : Item). inOrder (s .phase) j) (sym is) ∙ ordered)
 
-  pub steps-change : {named cost : ℕ} → item ≡ Change named cost → {r : State} → Ready s k r → treeIn r k → {d : Done}
+  pub steps-change : {named cost : ℕ} → item ≡ Change named cost → {r : State} → Ready s k r → {d : Done}
       → d ≡ changing (judgeWaiting (tableOf r (k .starts) (k .ends) (k .costs)) (rowsOfColumns (oneMore (r .rows) (k .changed) named) (oneMore (r .rows) (k .newcosts) cost))) r
       → {changed newcosts : List ℕ} → changed ≡ set (k .changed) (r .rows) named → newcosts ≡ set (k .newcosts) (r .rows) cost
       → Steps s k item d (lists (k .starts) (k .ends) (k .costs) changed newcosts (k .list)) × Holds (d .state) (lists (k .starts) (k .ends) (k .costs) changed newcosts (k .list))
-  steps-change {named} {cost} is ready t e a b =
-      (rw (is, e, a, b) (change ready), rw (e, a, b) (change-keeps (ready-phase ready) t (lent-of h) named cost))
+  steps-change is ready e a b = both h (rw (is, e, a, b) (change ready))
 
-  pub steps-apply : item ≡ Apply → {r : State} → Ready s k r → treeIn r k → {d : Done} {costs list : List ℕ}
-      → Applied r (k .starts) (k .ends) (k .costs) (k .changed) (k .newcosts) (k .list) d costs list → length costs ≡ length (k .costs) → length list ≡ length (k .list)
+  pub steps-apply : item ≡ Apply → {r : State} → Ready s k r → {d : Done} {costs list : List ℕ}
+      → Applied r (k .starts) (k .ends) (k .costs) (k .changed) (k .newcosts) (k .list) d costs list
       → Steps s k item d (lists (k .starts) (k .ends) costs (k .changed) (k .newcosts) list) × Holds (d .state) (lists (k .starts) (k .ends) costs (k .changed) (k .newcosts) list)
-  steps-apply is ready t a costs-kept list-kept =
-      (rw is (apply ready a), apply-keeps (ready-phase ready) t (lent-of h) a costs-kept list-kept)
+  steps-apply is ready a = both h (rw is (apply ready a))
 
-  pub steps-ask : {node : ℕ} → item ≡ Ask node → {r : State} → Ready s k r → treeIn r k → {o : Out} → o ≡ asked r node
-      → Steps s k item (record { state = r; out = o }) k × Holds r k
-  steps-ask is ready t e = (rw (is, e) (ask ready), routing (ready-phase ready) t (lent-of h))
+  pub steps-ask : {node : ℕ} → item ≡ Ask node → {r : State} → Ready s k r → {o : Out} → o ≡ asked r node → Steps s k item (record { state = r; out = o }) k × Holds r k
+  steps-ask is ready e = both h (rw (is, e) (ask ready))
 
   pub steps-end : item ≡ End → Steps s k item (record { state = s; out = Nothing }) k × Holds s k
-  steps-end is = (rw is (ended (not-unread End is refl)), h)
+  steps-end is = both h (rw is (ended (not-unread End is refl)))
 
   pub steps-unknown : {place : ℕ} → item ≡ UnknownKind place → {r : Done} → r ≡ refusing s 21 → Steps s k item r k × Holds (r .state) k
-  steps-unknown is e = (rw (is, e) unknown, rw e h)
+  steps-unknown is e = both h (rw (is, e) unknown)
 
   pub steps-cut : {place : ℕ} → item ≡ CutShort place → {r : Done} → r ≡ refusing s 22 → Steps s k item r k × Holds (r .state) k
-  steps-cut is e = (rw (is, e) cut, rw e h)
+  steps-cut is e = both h (rw (is, e) cut)
 
 pub steps-disorder : {s : State} {k : Lists} → Holds s k → {item : Item} → inOrder (s .phase) item ≡ false → {r : Done} → r ≡ refusing s 23
     → Steps s k item r k × Holds (r .state) k
-steps-disorder h o e = (rw e (out-of-order o), rw e h)
+steps-disorder h o e = both h (rw e (out-of-order o))
 
 pub few-nodes : (s : State) (k : Lists) → treeIn s k → s .nodes ≤ mostNodes
 few-nodes s k t = tree-links (tableOf s (k .starts) (k .ends) (k .costs)) (valueOf (s .tree)) (t .judged) .few-nodes

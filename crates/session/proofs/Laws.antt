@@ -1,31 +1,32 @@
 -- What the parts' answers say of each record. Assumes nothing.
 use mathlib.Core.Path.{_≡_, refl, sym, ap, _∙_}
-use mathlib.Core.Bool.{true, false}
+use mathlib.Core.Bool.{Bool}
 use mathlib.Core.List.{List, [], _∷_, _++_}
-use Prim.Native.Nat.{ℕ, _+_, _≤_, _<_}
+use Prim.Native.Nat.{ℕ, _+_, _-_, _≤_, _<_}
 use native.Mathlib.Omega.{arith}
 use native.Mathlib.Numerals.{add-one}
-use lib.ListN.{length, getD, set, take, drop, length-append}
-use lib.Seq.{length-take-le, take-suc-set, take-at, drop-at}
-use borrow.Author.Tests.{eq-eqb, lt-ltb, le-ltb, le-leb, lt-leb}
+use lib.Dec.{ltb}
+use lib.ListN.{length, getD, set, take, drop, length-append, length-set}
+use lib.Seq.{length-take-le, take-set-le, take-suc-set, take-at, drop-at}
+use borrow.Author.Tests.{lt-ltb, le-ltb, le-leb, lt-leb}
 use Rattle.rules.specs.Columns.{Table, Tree, Whole, table, mostLinks, mostRows, mostNodes, unreached, noLink}
-use Rattle.rules.specs.Refusals.{Verdict, accepted, refused, when, wrongNodeCount, wrongRoot, wrongColumns, judgeLinks, judgeBatch, judgeUpdate}
+use Rattle.rules.specs.Refusals.{Verdict, accepted, refused, wrongColumns, judgeEach, judgeLinks, judgeRows, judgeBatch, judgeUpdate}
 use Rattle.rules.specs.Answers.{told, numberIn, numberOf}
 use Rattle.rules.specs.Jobs.{Built, built, not-built, Updated, updated, not-updated}
 use Rattle.rules.specs.declared.Answer.{Answer}
 use Rattle.rules.specs.declared.Change.{Change}
 use Rattle.rules.proofs.Logic.{getD-any}
-use Rattle.rules.proofs.Judged.{then-first, then-second, when-not}
 use Rattle.rules.proofs.OneOutcome.{tree-links, length-applied}
 use Rattle.rules.proofs.Demands.{update-accept}
-use Rattle.links.proofs.Laws.{columns-decide}
+use Rattle.links.proofs.Laws.{columns-decide, links-decide}
 use Rattle.batch.specs.Rows.{rowsOfColumns, BatchJudged}
 use Rattle.batch.proofs.Laws.{links-fewer}
 use Rattle.tree.specs.Value.{valueOf}
 use Rattle.session.specs.declared.State.{State}
 use Rattle.session.specs.declared.Done.{Done}
 use Rattle.session.specs.declared.Out.the-variants.{Row, Refused}
-use Rattle.session.specs.States.{tableOf, waiting, oneMore, TableStands, Lent, TreeStands, refusing, judgeWaiting, asked}
+use Rattle.session.specs.States.{tableOf, waiting, oneMore, TableStands, Lent, TreeStands, refusing, linked, judgeWaiting, asked}
+use Rattle.session.proofs.Last.{count-right, root-right, columns-wrong, part-decides}
 
 -- ---- a record that is judged, and refused or done
 
@@ -52,40 +53,48 @@ entry-written l n x h = rw add-one (take-suc-set l n x h)
 -- ---- LINK
 
 module _ {s : State} {starts ends costs : List ℕ} (t : TableStands s starts ends costs) (start end cost : ℕ) where
+  abbrev so-far : Table
+  so-far = tableOf s starts ends costs
+
   abbrev longer : Table
   longer = table (s .nodes) (s .root) (oneMore (s .links) starts start) (oneMore (s .links) ends end) (oneMore (s .links) costs cost)
 
-  count-right : wrongNodeCount longer ≡ false
-  unfolding judgeLinks
-  count-right = when-not (wrongNodeCount (tableOf s starts ends costs)) 1 (then-first (when (wrongNodeCount (tableOf s starts ends costs)) 1) _ (t .judged))
-
-  root-right : wrongRoot longer ≡ false
-  unfolding judgeLinks
-  root-right =
-      when-not (wrongRoot (tableOf s starts ends costs)) 2
-      (then-first (when (wrongRoot (tableOf s starts ends costs)) 2) _ (then-second (when (wrongNodeCount (tableOf s starts ends costs)) 1) _ (t .judged)))
+  longer-columns : {over : Bool} → ltb mostLinks (s .links + 1) ≡ over → wrongColumns longer ≡ over
+  longer-columns over = columns-wrong longer (s .links + 1)
+      (entry-length (s .links) starts start (omega (arith, t .few-links, t .columns .starts-long)))
+      (entry-length (s .links) ends end (omega (arith, t .few-links, t .columns .ends-long)))
+      (entry-length (s .links) costs cost (omega (arith, t .few-links, t .columns .costs-long)))
+      over
 
   -- the 4,097th
   pub no-place : mostLinks ≤ s .links → refused 3 0 ≡ judgeLinks longer
-  no-place l = columns-decide longer count-right root-right wrong
-    where
-      wrong : wrongColumns longer ≡ true
-      wrong = rw (
-        entry-length (s .links) starts start (omega (arith, t .few-links, t .columns .starts-long)),
-        entry-length (s .links) ends end (omega (arith, t .few-links, t .columns .ends-long)),
-        entry-length (s .links) costs cost (omega (arith, t .few-links, t .columns .costs-long)),
-        eq-eqb (s .links + 1) (s .links + 1) refl,
-        lt-ltb mostLinks (s .links + 1) (omega arith),
-      ) refl
+  no-place l = columns-decide longer (count-right so-far (t .judged)) (root-right so-far (t .judged)) (longer-columns (lt-ltb mostLinks (s .links + 1) (omega arith)))
 
-  pub link-judged : s .links < mostLinks → {v : Verdict}
-      → v ≡ judgeLinks (table (s .nodes) (s .root) (take (s .links + 1) (set starts (s .links) start)) (take (s .links + 1) (set ends (s .links) end)) (take (s .links + 1) (set costs (s .links) cost)))
-      → v ≡ judgeLinks longer
-  link-judged l e = rw (
-    entry-written starts (s .links) start (omega (arith, t .columns .starts-long)),
-    entry-written ends (s .links) end (omega (arith, t .columns .ends-long)),
-    entry-written costs (s .links) cost (omega (arith, t .columns .costs-long)),
-  ) at e
+  pub each-decides : s .links < mostLinks → judgeEach longer ≡ judgeLinks longer
+  each-decides l = links-decide longer (count-right so-far (t .judged)) (root-right so-far (t .judged)) (longer-columns (le-ltb mostLinks (s .links + 1) (omega arith)))
+
+  -- the link before and this one, once it is written, tell what the longer table does
+  pub link-judged : s .links < mostLinks → (from : ℕ) → from ≡ s .links - 1
+      → linked (judgeLinks (table (s .nodes) (s .root)
+      (take (s .links + 1 - from) (drop from (set starts (s .links) start)))
+      (take (s .links + 1 - from) (drop from (set ends (s .links) end)))
+      (take (s .links + 1 - from) (drop from (set costs (s .links) cost))))) s
+      ≡ linked (judgeLinks longer) s
+  link-judged l from is =
+      let so-far-set : judgeLinks (table (s .nodes) (s .root) (take (s .links) (set starts (s .links) start)) (take (s .links) (set ends (s .links) end)) (take (s .links) (set costs (s .links) cost))) ≡ accepted = rw (
+        take-set-le (s .links) starts (s .links) start (omega arith),
+        take-set-le (s .links) ends (s .links) end (omega arith),
+        take-set-le (s .links) costs (s .links) cost (omega arith),
+      ) (t .judged) in
+      rw (
+        ← entry-written starts (s .links) start (omega (arith, t .columns .starts-long)),
+        ← entry-written ends (s .links) end (omega (arith, t .columns .ends-long)),
+        ← entry-written costs (s .links) cost (omega (arith, t .columns .costs-long)),
+      ) (part-decides (s .nodes) (s .root) (s .links) (set starts (s .links) start) (set ends (s .links) end) (set costs (s .links) cost) so-far-set l
+      (rw length-set (omega (arith, t .columns .starts-long)))
+      (rw length-set (omega (arith, t .columns .ends-long)))
+      (rw length-set (omega (arith, t .columns .costs-long)))
+      from is s)
 
 -- ---- the first record after the LINKs
 
@@ -105,13 +114,18 @@ module _ {s : State} {starts ends costs changed newcosts list : List ℕ} (t : T
   abbrev more : List Change
   more = rowsOfColumns (oneMore (s .rows) changed link) (oneMore (s .rows) newcosts cost)
 
-  -- the 257th since the last APPLY
-  pub no-row : mostRows ≤ s .rows → refused 7 0 ≡ judgeWaiting (tableOf s starts ends costs) more
-  no-row l =
+  more-long : length more ≡ s .rows + 1
+  more-long =
       let links = entry-length (s .rows) changed link (omega (arith, t .few-rows, w .changed-long)) in
       let prices = entry-length (s .rows) newcosts cost (omega (arith, t .few-rows, w .newcosts-long)) in
-      let rows : length more ≡ s .rows + 1 = links-fewer (oneMore (s .rows) changed link) (oneMore (s .rows) newcosts cost) (omega arith) ∙ links in
-      rw (rows, lt-ltb mostRows (s .rows + 1) (omega arith)) refl
+      links-fewer (oneMore (s .rows) changed link) (oneMore (s .rows) newcosts cost) (omega arith) ∙ links
+
+  -- the 257th since the last APPLY
+  pub no-row : mostRows ≤ s .rows → refused 7 0 ≡ judgeWaiting (tableOf s starts ends costs) more
+  no-row l = rw (more-long, lt-ltb mostRows (s .rows + 1) (omega arith)) refl
+
+  pub rows-decide : s .rows < mostRows → judgeRows (tableOf s starts ends costs) more ≡ judgeWaiting (tableOf s starts ends costs) more
+  rows-decide l = rw (more-long, le-ltb mostRows (s .rows + 1) (omega arith)) refl
 
   pub row-judged : s .rows < mostRows → {a : Answer}
       → BatchJudged (s .links) (rowsOfColumns (take (s .rows + 1) (set changed (s .rows) link)) (take (s .rows + 1) (set newcosts (s .rows) cost))) a

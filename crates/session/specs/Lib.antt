@@ -1,2 +1,3 @@
 pub mod States
 pub mod Steps
+pub mod Outcomes

@@ -2,7 +2,7 @@
 ghost use mathlib.Core.Path.{_≡_};
 ghost use mathlib.Core.Bool.{false};
 ghost use mathlib.Core.List.{[]};
-ghost use Prim.Native.Nat.{_≤_};
+ghost use Prim.Native.Nat.{_-_, _≤_};
 ghost use lib.ListN.{set};
 ghost use Rattle.rules.specs.Answers.{numberOf};
 ghost use Rattle.rules.specs.Columns.{emptyTree, table};
@@ -115,8 +115,19 @@ pub fn network(
     }
 }
 
+// The place before; the first place has none, and stands for itself.
+fn place_before(place: usize) -> usize
+    ensures { λ r. ⌜ r ≡ place - 1 ⌝ }
+{
+    if place == 0 {
+        return place;
+    }
+    place - 1
+}
+
 // LINK: refusal 3 for one that the columns have no place for, else 3 to 5 of the table with this link as its last. It is
-// written to the columns first: what stands there past the links so far means nothing.
+// written to the columns first: what stands there past the links so far means nothing. The links so far are an accepted
+// table, so the link before and this one tell what the whole table would.
 pub fn link(
     mut state: State,
     start: u16,
@@ -137,12 +148,13 @@ pub fn link(
     ends[place] = end;
     costs[place] = cost;
     let next = place + 1;
+    let from = place_before(place);
     let answer = links::judge_links(
         state.nodes,
         state.root,
-        &starts[..next],
-        &ends[..next],
-        &costs[..next],
+        &starts[from..next],
+        &ends[from..next],
+        &costs[from..next],
     );
     if rules::number(answer) != 0 {
         return refuse(state, answer);

@@ -1,9 +1,10 @@
--- `session::link` meets its contract: the table with this link as its last is judged. Assumes nothing.
-use mathlib.Core.Path.{refl, sym}
+-- `session::link` meets its contract: the link before and this one are judged in the place of the whole table. Assumes
+-- nothing.
+use mathlib.Core.Path.{refl, sym, _∙_}
 use borrow.Author.Needs.{needs}
 use native.Mathlib.Omega.{arith}
 use lib.ListN.{length-set}
-use lib.Seq.{length-take-le, set-out}
+use lib.Seq.{set-out}
 use Rattle.rules.specs.Refusals.{Verdict}
 use Rattle.rules.proofs.Judged.{not-refused}
 use Rattle.rules.proofs.OneOutcome.{number-accepts, number-refuses}
@@ -31,40 +32,67 @@ mul-starts : tie.Need-mul-starts
 mul-starts c = search needs
 
 slice-write-starts : tie.Need-slice-write-starts
-slice-write-starts c = omega (arith, c .before .before .before .before .pre .columns .starts-long)
+slice-write-starts c = search needs
 
 mul-ends : tie.Need-mul-ends
 mul-ends c = search needs
 
 slice-write-ends : tie.Need-slice-write-ends
-slice-write-ends c = omega (arith, c .before .before .before .before .pre .columns .ends-long)
+slice-write-ends c = search needs
 
 mul-costs : tie.Need-mul-costs
 mul-costs c = search needs
 
 slice-write-costs : tie.Need-slice-write-costs
-slice-write-costs c = omega (arith, c .before .before .before .before .pre .columns .costs-long)
+slice-write-costs c = search needs
 
 add-next : tie.Need-add-next
 add-next c = search needs
 
-slice-reshare-prefix-judge-links : tie.Need-slice-reshare-prefix-judge-links
-slice-reshare-prefix-judge-links c = rw (length-set (c .before .before .before .before .args .starts .now) (c .before .before .before .before .args .state .links) (c .before .before .before .before .args .start)) (omega (arith, c .before .before .before .before .pre .columns .starts-long))
+place-before-requires : tie.Need-place-before-requires
+place-before-requires c κs = search needs
 
-slice-aggregate-judge-links : tie.Need-slice-aggregate-judge-links
-slice-aggregate-judge-links c = sym (length-take-le _ _ (rw (length-set (c .before .before .before .before .before .args .starts .now) (c .before .before .before .before .before .args .state .links) (c .before .before .before .before .before .args .start)) (omega (arith, c .before .before .before .before .before .pre .columns .starts-long))))
+mul-judge-links : tie.Need-mul-judge-links
+mul-judge-links c = search needs
 
-slice-reshare-prefix-judge-links-2 : tie.Need-slice-reshare-prefix-judge-links-2
-slice-reshare-prefix-judge-links-2 c = rw (length-set (c .before .before .before .before .before .args .ends .now) (c .before .before .before .before .before .args .state .links) (c .before .before .before .before .before .args .end)) (omega (arith, c .before .before .before .before .before .pre .columns .ends-long))
+sub-judge-links : tie.Need-sub-judge-links
+sub-judge-links c = search needs
 
-slice-aggregate-judge-links-2 : tie.Need-slice-aggregate-judge-links-2
-slice-aggregate-judge-links-2 c = sym (length-take-le _ _ (rw (length-set (c .before .before .before .before .before .before .args .ends .now) (c .before .before .before .before .before .before .args .state .links) (c .before .before .before .before .before .before .args .end)) (omega (arith, c .before .before .before .before .before .before .pre .columns .ends-long))))
+part-judge-links-start : tie.Need-part-judge-links-start
+part-judge-links-start c = search needs
 
-slice-reshare-prefix-judge-links-3 : tie.Need-slice-reshare-prefix-judge-links-3
-slice-reshare-prefix-judge-links-3 c = rw (length-set (c .before .before .before .before .before .before .args .costs .now) (c .before .before .before .before .before .before .args .state .links) (c .before .before .before .before .before .before .args .cost)) (omega (arith, c .before .before .before .before .before .before .pre .columns .costs-long))
+part-judge-links-end : tie.Need-part-judge-links-end
+part-judge-links-end c =
+    let at = c .before .before .before .before .before .before in
+    rw (length-set (at .args .starts .now) (at .args .state .links) (at .args .start)) (omega (arith, at .pre .columns .starts-long))
 
-slice-aggregate-judge-links-3 : tie.Need-slice-aggregate-judge-links-3
-slice-aggregate-judge-links-3 c = sym (length-take-le _ _ (rw (length-set (c .before .before .before .before .before .before .before .args .costs .now) (c .before .before .before .before .before .before .before .args .state .links) (c .before .before .before .before .before .before .before .args .cost)) (omega (arith, c .before .before .before .before .before .before .before .pre .columns .costs-long))))
+mul-judge-links-2 : tie.Need-mul-judge-links-2
+mul-judge-links-2 c = search needs
+
+sub-judge-links-2 : tie.Need-sub-judge-links-2
+sub-judge-links-2 c = search needs
+
+part-judge-links-start-2 : tie.Need-part-judge-links-start-2
+part-judge-links-start-2 c = search needs
+
+part-judge-links-end-2 : tie.Need-part-judge-links-end-2
+part-judge-links-end-2 c =
+    let at = c .before .before .before .before .before .before .before .before in
+    rw (length-set (at .args .ends .now) (at .args .state .links) (at .args .end)) (omega (arith, at .pre .columns .ends-long))
+
+mul-judge-links-3 : tie.Need-mul-judge-links-3
+mul-judge-links-3 c = search needs
+
+sub-judge-links-3 : tie.Need-sub-judge-links-3
+sub-judge-links-3 c = search needs
+
+part-judge-links-start-3 : tie.Need-part-judge-links-start-3
+part-judge-links-start-3 c = search needs
+
+part-judge-links-end-3 : tie.Need-part-judge-links-end-3
+part-judge-links-end-3 c =
+    let at = c .before .before .before .before .before .before .before .before .before .before in
+    rw (length-set (at .args .costs .now) (at .args .state .links) (at .args .cost)) (omega (arith, at .pre .columns .costs-long))
 
 judge-links-requires : tie.Need-judge-links-requires
 judge-links-requires c κs = search needs
@@ -86,11 +114,12 @@ same-length-3 c = search needs
 
 returns-2 : tie.Need-returns-2
 returns-2 c =
-    let at = c .before .before .before .before .before .before .before .before .before .before .before in
+    let at = c .before .before .before .before .before .before .before .before .before .before .before .before .before .before .before in
     let given = at .args in
     let links = c .before .before .before .judge-links in
-    let judged = link-judged (at .pre) (given .start) (given .end) (given .cost) (c .before .before .before .before .before .before .before .if1 .left) (links .ensures) in (
-      is-refused (λ (v : Verdict). linked v (given .state)) (λ n x. refl) (links .result) judged (c .refuse2 .ensures) (number-refuses (links .result) (c .before .before .number .ensures) (c .before .if2 .taken)),
+    let before = c .before .before .before .before .before .before .before .before .before .before .place-before in
+    let judged = link-judged (at .pre) (given .start) (given .end) (given .cost) (c .before .before .before .before .before .before .before .before .before .before .before .if1 .left) (before .result) (before .ensures) in (
+      is-refused (λ (v : Verdict). linked v (given .state)) (λ n x. refl) (links .result) (links .ensures) (c .refuse2 .ensures) (number-refuses (links .result) (c .before .before .number .ensures) (c .before .if2 .taken)) ∙ judged,
       refl,
       refl,
       refl,
@@ -107,11 +136,12 @@ same-length-6 c = search needs
 
 returns-3 : tie.Need-returns-3
 returns-3 c =
-    let at = c .before .before .before .before .before .before .before .before .before .before in
+    let at = c .before .before .before .before .before .before .before .before .before .before .before .before .before .before in
     let given = at .args in
     let links = c .before .before .judge-links in
-    let judged = link-judged (at .pre) (given .start) (given .end) (given .cost) (c .before .before .before .before .before .before .if1 .left) (links .ensures) in (
-      is-done (λ (v : Verdict). linked v (given .state)) (λ n x. refl) (links .result) judged (number-accepts (links .result) (c .before .number .ensures) (c .if2 .left)),
+    let before = c .before .before .before .before .before .before .before .before .before .place-before in
+    let judged = link-judged (at .pre) (given .start) (given .end) (given .cost) (c .before .before .before .before .before .before .before .before .before .before .if1 .left) (before .result) (before .ensures) in (
+      is-done (λ (v : Verdict). linked v (given .state)) (λ n x. refl) (links .result) (links .ensures) (number-accepts (links .result) (c .before .number .ensures) (c .if2 .left)) ∙ judged,
       refl,
       refl,
       refl,
@@ -130,12 +160,19 @@ link-spec =
     mul-costs
     slice-write-costs
     add-next
-    slice-reshare-prefix-judge-links
-    slice-aggregate-judge-links
-    slice-reshare-prefix-judge-links-2
-    slice-aggregate-judge-links-2
-    slice-reshare-prefix-judge-links-3
-    slice-aggregate-judge-links-3
+    place-before-requires
+    mul-judge-links
+    sub-judge-links
+    part-judge-links-start
+    part-judge-links-end
+    mul-judge-links-2
+    sub-judge-links-2
+    part-judge-links-start-2
+    part-judge-links-end-2
+    mul-judge-links-3
+    sub-judge-links-3
+    part-judge-links-start-3
+    part-judge-links-end-3
     judge-links-requires
     number-requires
     refuse-requires-2

@@ -118,7 +118,7 @@ returns-4 : tie.Need-returns-4
 returns-4 c =
     let job = c .before .before .before .before .change .ensures in
     let at = c .before .before .before .before .before .before .before .before .before .before .before .ready .ensures in
-    steps-change (c .before .before .before .before .before .before .before .before .before .before .before .before .before .before .before .before .before .before .before .before .before .before .before .before .before .before .before .before .before .pre) (sym (c .before .before .before .before .before .before .before .before .before .before .before .before .before .before .before .before .before .before .before .before .before .before .in-order .ensures) ∙ not-false _ (c .before .before .before .before .before .before .before .before .before .before .before .before .before .before .before .before .before .before .before .before .before .if1 .left)) (c .before .before .before .before .before .before .before .before .before .before .before .before .before .before .before .before .before .before .before .item3 .given .1) (at .0) (at .1) (job .0) (job .1) (job .2)
+    steps-change (c .before .before .before .before .before .before .before .before .before .before .before .before .before .before .before .before .before .before .before .before .before .before .before .before .before .before .before .before .before .pre) (sym (c .before .before .before .before .before .before .before .before .before .before .before .before .before .before .before .before .before .before .before .before .before .before .in-order .ensures) ∙ not-false _ (c .before .before .before .before .before .before .before .before .before .before .before .before .before .before .before .before .before .before .before .before .before .if1 .left)) (c .before .before .before .before .before .before .before .before .before .before .before .before .before .before .before .before .before .before .before .item3 .given .1) (at .0) (job .0) (job .1) (job .2)
 
 same-length-13 : tie.Need-same-length-13
 same-length-13 c = search needs
@@ -141,7 +141,7 @@ same-length-18 c = search needs
 returns-5 : tie.Need-returns-5
 returns-5 c =
     let at = c .before .before .before .before .before .before .before .before .before .before .before .ready2 .ensures in
-    steps-apply (c .before .before .before .before .before .before .before .before .before .before .before .before .before .before .before .before .before .before .before .before .before .before .before .before .before .before .before .before .pre) (sym (c .before .before .before .before .before .before .before .before .before .before .before .before .before .before .before .before .before .before .before .before .before .in-order .ensures) ∙ not-false _ (c .before .before .before .before .before .before .before .before .before .before .before .before .before .before .before .before .before .before .before .before .if1 .left)) (c .before .before .before .before .before .before .before .before .before .before .before .before .before .before .before .before .before .before .enum-told .given .1) (at .0) (at .1) (c .before .before .before .before .apply .ensures) (search needs) (search needs)
+    steps-apply (c .before .before .before .before .before .before .before .before .before .before .before .before .before .before .before .before .before .before .before .before .before .before .before .before .before .before .before .before .pre) (sym (c .before .before .before .before .before .before .before .before .before .before .before .before .before .before .before .before .before .before .before .before .before .in-order .ensures) ∙ not-false _ (c .before .before .before .before .before .before .before .before .before .before .before .before .before .before .before .before .before .before .before .before .if1 .left)) (c .before .before .before .before .before .before .before .before .before .before .before .before .before .before .before .before .before .before .enum-told .given .1) (at .0) (c .before .before .before .before .apply .ensures)
 
 same-length-19 : tie.Need-same-length-19
 same-length-19 c = search needs
@@ -164,7 +164,7 @@ same-length-24 c = search needs
 returns-6 : tie.Need-returns-6
 returns-6 c =
     let at = c .before .ready3 .ensures in
-    steps-ask (c .before .before .before .before .before .before .before .before .before .before .before .before .before .before .before .before .before .before .before .pre) (sym (c .before .before .before .before .before .before .before .before .before .before .before .before .in-order .ensures) ∙ not-false _ (c .before .before .before .before .before .before .before .before .before .before .before .if1 .left)) (c .before .before .before .before .before .before .before .before .before .item4 .given .1) (at .0) (at .1) (c .ask .ensures)
+    steps-ask (c .before .before .before .before .before .before .before .before .before .before .before .before .before .before .before .before .before .before .before .pre) (sym (c .before .before .before .before .before .before .before .before .before .before .before .before .in-order .ensures) ∙ not-false _ (c .before .before .before .before .before .before .before .before .before .before .before .if1 .left)) (c .before .before .before .before .before .before .before .before .before .item4 .given .1) (at .0) (c .ask .ensures)
 
 returns-7 : tie.Need-returns-7
 returns-7 c = steps-end (c .before .before .before .before .before .before .before .before .before .before .pre) (sym (c .before .before .before .in-order .ensures) ∙ not-false _ (c .before .before .if1 .left)) (c .enum-told2 .given .1)

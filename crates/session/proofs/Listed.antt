@@ -1,0 +1,261 @@
+-- A record is refused with a number that is listed for its kind, and a refusal leaves what counts. Assumes nothing.
+use mathlib.Core.Path.{_≡_, refl, sym, ap, _∙_}
+use mathlib.Core.Logic.{_⊎_, inl, inr, _≢_}
+use mathlib.Core.Bool.{Bool, true, false, not}
+use mathlib.Core.List.{List, []}
+use Prim.Native.Nat.{ℕ, _≤_, _<_}
+use native.Mathlib.Omega.{arith}
+use native.Mathlib.Decide.{decLt}
+use lib.Dec.{eqb, ltb}
+use lib.ListN.{length}
+use lib.Seq.{take-set-le}
+use borrow.Author.Tests.{lt-leb, eqb-false}
+use Rattle.rules.specs.Tests.{pick, firstBelow}
+use Rattle.rules.specs.Columns.{Table, table, mostLinks, mostRows}
+use Rattle.rules.specs.Refusals.{Verdict, accepted, refused, _then_, when, whenOne, wrongNodeCount, wrongRoot, wrongEndsAt, wrongOrderAt, judgeEach, judgeLinks, judgeRows, namesNoLink, firstBadRow}
+use Rattle.rules.specs.declared.Change.{Change as CostChange}
+use Rattle.rules.proofs.Judged.{not-refused, one-of}
+use Rattle.batch.specs.Rows.{rowsOfColumns}
+use Rattle.stream.specs.declared.Item.{Item}
+use Rattle.stream.specs.declared.Item.the-variants.{Network, Link, Change, Ask}
+use Rattle.session.specs.declared.Out.{Out}
+use Rattle.session.specs.declared.Out.the-variants.{Nothing, Row, Changed, Refused}
+use Rattle.session.specs.declared.State.{State}
+use Rattle.session.specs.declared.Done.{Done}
+use Rattle.session.specs.States.{tableOf, waiting, oneMore, TableStands, Lent, TreeStands, networked, linked, changing, judgeWaiting, asked}
+use Rattle.session.specs.Steps.{isUnread, isLinking, Lists, Holds, Ready, begins, stays, Steps, out-of-order, unknown, cut, ended, network, link, change, apply, ask}
+use Rattle.session.specs.Outcomes.{ForKind, node-count, no-root, no-place, wrong-ends, wrong-order, no-row, no-link, again, no-node, unknown-kind, cut-short, Listed, disorder, for-kind, Left}
+use Rattle.session.proofs.Laws.{no-place as past-links, each-decides, no-row as past-rows, rows-decide, asks-none}
+use Rattle.session.proofs.OneOutcome.{linkVerdict, linkLists, changeVerdict, changeLists, ready-read}
+use Rattle.session.proofs.Keeps.{table-of, lent-of, met-stands}
+
+-- ---- what is told, and the verdict behind it
+
+not-nothing : {n : ℕ} → Nothing ≡ Refused n → ⊥
+not-nothing e = let z : _≡_ {A = ℕ} 0 1 = cc in omega arith
+
+not-row : {node dist parent first n : ℕ} → Row node dist parent first ≡ Refused n → ⊥
+not-row e = let z : _≡_ {A = ℕ} 0 1 = cc in omega arith
+
+not-changed : {count n : ℕ} → Changed count ≡ Refused n → ⊥
+not-changed e = let z : _≡_ {A = ℕ} 0 1 = cc in omega arith
+
+record RefusedBy (v : Verdict) (n : ℕ) : Type 0 where
+  value : ℕ
+  is : v ≡ refused n value
+
+-- of a record that is judged, and refused or done
+module _ (out : Verdict → Out) (done : out accepted ≡ Nothing) (refuses : (number value : ℕ) → out (refused number value) ≡ Refused number) where
+  verdict-of : (v : Verdict) {n : ℕ} → out v ≡ Refused n → RefusedBy v n
+  verdict-of accepted e = absurd (not-nothing (sym done ∙ e))
+  verdict-of (refused number value) {n} e =
+      let told : Refused number ≡ Refused n = sym (refuses number value) ∙ e in
+      let same : number ≡ n = cc in
+      record { value = value; is = rw same refl }
+
+-- ---- which number each judgment gives
+
+network-number : (nodes root : ℕ) {n x : ℕ} → judgeLinks (table nodes root [] [] []) ≡ refused n x → (n ≡ 1) ⊎ (n ≡ 2)
+unfolding judgeLinks firstBelow
+network-number nodes root {n} {x} e = at (wrongNodeCount (table nodes root [] [] [])) (wrongRoot (table nodes root [] [] [])) e
+  where
+    at : (count place : Bool) → (when count 1 then when place 2 then accepted) ≡ refused n x → (n ≡ 1) ⊎ (n ≡ 2)
+    at true place q = inl (cc)
+    at false true q = inr (cc)
+    at false false q = absurd (not-refused (sym q))
+
+then-cases : {n x : ℕ} (a b : Verdict) → a then b ≡ refused n x → (a ≡ refused n x) ⊎ (b ≡ refused n x)
+then-cases accepted b e = inr e
+then-cases (refused number value) b e = inl e
+
+each-number : (t : Table) {n x : ℕ} → judgeEach t ≡ refused n x → (n ≡ 4) ⊎ (n ≡ 5)
+each-number t {n} {x} e = at (then-cases ends order e)
+  where
+    links : ℕ
+    links = length (t .starts)
+
+    ends : Verdict
+    ends = whenOne links (wrongEndsAt t) 4
+
+    order : Verdict
+    order = whenOne links (wrongOrderAt t) 5
+
+    at : (ends ≡ refused n x) ⊎ (order ≡ refused n x) → (n ≡ 4) ⊎ (n ≡ 5)
+    at (inl a) = inl (one-of links (wrongEndsAt t) 4 a .0)
+    at (inr a) = inr (one-of links (wrongOrderAt t) 5 a .0)
+
+rows-number : (t : Table) (batch : List CostChange) {n x : ℕ} → judgeRows t batch ≡ refused n x → (n ≡ 8) ⊎ (n ≡ 9)
+unfolding judgeRows
+rows-number t batch {n} {x} e = at (ltb (firstBadRow t batch) (length batch)) (namesNoLink t batch (firstBadRow t batch)) e
+  where
+    at : (bad none : Bool) → pick bad (refused (pick none 8 9) (firstBadRow t batch)) accepted ≡ refused n x → (n ≡ 8) ⊎ (n ≡ 9)
+    at true true q = inl (cc)
+    at true false q = inr (cc)
+    at false none q = absurd (not-refused (sym q))
+
+-- ---- the state that a record meets
+
+pub record Met (s r : State) : Type 0 where
+  pub nodes : r .nodes ≡ s .nodes
+  pub root : r .root ≡ s .root
+  pub links : r .links ≡ s .links
+  pub rows : r .rows ≡ s .rows
+
+pub met : {s : State} {k : Lists} {r : State} → Ready s k r → Met s r
+met (begins p b) = record {
+  nodes = ap (λ (x : State). x .nodes) (b .kept);
+  root = ap (λ (x : State). x .root) (b .kept);
+  links = ap (λ (x : State). x .links) (b .kept);
+  rows = ap (λ (x : State). x .rows) (b .kept);
+}
+met (stays p) = record { nodes = refl; root = refl; links = refl; rows = refl }
+
+-- ---- each kind
+
+network-listed : {s : State} (nodes root : ℕ) {n : ℕ} → (n ≡ 1) ⊎ (n ≡ 2) → ForKind s (Network nodes root) n
+network-listed nodes root (inl e) = rw e node-count
+network-listed nodes root (inr e) = rw e no-root
+
+module _ {s : State} {starts ends costs : List ℕ} (t : TableStands s starts ends costs) (start end cost : ℕ) where
+  ends-listed : {n : ℕ} → (n ≡ 4) ⊎ (n ≡ 5) → ForKind s (Link start end cost) n
+  ends-listed (inl e) = rw e wrong-ends
+  ends-listed (inr e) = rw e wrong-order
+
+  link-listed : {n x : ℕ} → judgeLinks (table (s .nodes) (s .root) (oneMore (s .links) starts start) (oneMore (s .links) ends end) (oneMore (s .links) costs cost)) ≡ refused n x
+      → ForKind s (Link start end cost) n
+  link-listed {n} {x} e = at (decLt (s .links) mostLinks)
+    where
+      at : Dec (s .links < mostLinks) → ForKind s (Link start end cost) n
+      at (yes l) = ends-listed (each-number _ (each-decides t start end cost l ∙ e))
+      at (no l) =
+          let told : refused 3 0 ≡ refused n x = past-links t start end cost (omega arith) ∙ e in
+          let is : n ≡ 3 = cc in
+          rw is (no-place (omega (arith, t .few-links)))
+
+module _ {s r : State} (m : Met s r) where
+  row-listed : (named cost : ℕ) {n : ℕ} → (n ≡ 8) ⊎ (n ≡ 9) → ForKind s (Change named cost) n
+  row-listed named cost (inl e) = rw e no-link
+  row-listed named cost (inr e) = rw e again
+
+  change-listed : {starts ends costs changed newcosts list : List ℕ} → TreeStands r starts ends costs changed newcosts → Lent changed newcosts list → (named cost : ℕ) {n x : ℕ}
+      → judgeWaiting (tableOf r starts ends costs) (rowsOfColumns (oneMore (r .rows) changed named) (oneMore (r .rows) newcosts cost)) ≡ refused n x
+      → ForKind s (Change named cost) n
+  change-listed t w named cost {n} {x} e = at (decLt (r .rows) mostRows)
+    where
+      at : Dec (r .rows < mostRows) → ForKind s (Change named cost) n
+      at (yes l) = row-listed named cost (rows-number _ _ (rows-decide t w named cost l ∙ e))
+      at (no l) =
+          let told : refused 7 0 ≡ refused n x = past-rows t w named cost (omega arith) ∙ e in
+          let is : n ≡ 7 = cc in
+          rw is (no-row (omega (arith, t .few-rows, m .rows)))
+
+  ask-listed : (node : ℕ) {n : ℕ} → asked r node ≡ Refused n → ForKind s (Ask node) n
+  ask-listed node {n} e = at (decLt node (r .nodes))
+    where
+      at : Dec (node < r .nodes) → ForKind s (Ask node) n
+      at (yes l) = absurd (not-row (rw (lt-leb (r .nodes) node l) at e))
+      at (no l) =
+          let told : Refused 10 ≡ Refused n = asks-none r node (omega arith) ∙ e in
+          let is : n ≡ 10 = cc in
+          let past : s .nodes ≤ node = omega (arith, m .nodes) in
+          rw is (no-node past)
+
+-- ---- the theorem
+
+refused-with : (m : ℕ) {n : ℕ} → Refused m ≡ Refused n → n ≡ m
+refused-with m e = cc
+
+-- a record is refused with one of the numbers that are listed for its kind
+pub listed : {s : State} {k : Lists} {item : Item} {d : Done} {l : Lists} {n : ℕ} → Holds s k → Steps s k item d l → d .out ≡ Refused n → Listed s item n
+listed h (out-of-order e) q = disorder e (refused-with 23 q)
+listed h unknown q = for-kind refl (rw (refused-with 21 q) unknown-kind)
+listed h cut q = for-kind refl (rw (refused-with 22 q) cut-short)
+listed h (ended e) q = absurd (not-nothing q)
+listed {s} h (network {nodes} {root} p) q =
+    let told = verdict-of (λ (v : Verdict). networked v s nodes root .out) refl (λ number value. refl) (judgeLinks (table nodes root [] [] [])) q in
+    for-kind (ap isUnread p) (network-listed nodes root (network-number nodes root (told .is)))
+listed {s} {k} h (link {start} {end} {cost} p) q =
+    let told = verdict-of (λ (v : Verdict). linked v s .out) refl (λ number value. refl) (linkVerdict s k start end cost) q in
+    for-kind (ap isLinking p) (link-listed (table-of h p) start end cost (told .is))
+listed {s} {k} h (change {link = named} {cost} {r} ready) q =
+    let told = verdict-of (λ (v : Verdict). changing v r .out) refl (λ number value. refl) (changeVerdict r k named cost) q in
+    for-kind (ap not (ready-read ready)) (change-listed (met ready) (met-stands h ready) (lent-of h) named cost (told .is))
+listed h (apply ready a) q = absurd (not-changed (sym (a .told) ∙ q))
+listed h (ask {node} ready) q = for-kind (ap not (ready-read ready)) (ask-listed (met ready) node q)
+
+others : (n : ℕ) → eqb n 6 ≡ false → eqb n 11 ≡ false → eqb n 12 ≡ false → (n ≢ 6) × (n ≢ 11) × (n ≢ 12)
+others n a b c = (eqb-false n 6 a, eqb-false n 11 b, eqb-false n 12 c)
+
+-- so 6, 11 and 12 don't arise
+pub none-else : {s : State} {item : Item} {n : ℕ} → Listed s item n → (n ≢ 6) × (n ≢ 11) × (n ≢ 12)
+none-else (disorder o e) = rw e (others 23 refl refl refl)
+none-else (for-kind o node-count) = others 1 refl refl refl
+none-else (for-kind o no-root) = others 2 refl refl refl
+none-else (for-kind o (no-place e)) = others 3 refl refl refl
+none-else (for-kind o wrong-ends) = others 4 refl refl refl
+none-else (for-kind o wrong-order) = others 5 refl refl refl
+none-else (for-kind o (no-row e)) = others 7 refl refl refl
+none-else (for-kind o no-link) = others 8 refl refl refl
+none-else (for-kind o again) = others 9 refl refl refl
+none-else (for-kind o (no-node l)) = others 10 refl refl refl
+none-else (for-kind o unknown-kind) = others 21 refl refl refl
+none-else (for-kind o cut-short) = others 22 refl refl refl
+
+-- ---- what a refusal leaves
+
+module _ {s : State} {k : Lists} where
+  left-all : Left s k s k
+  left-all = record { state = inl refl; table = refl; rows = refl; list = refl }
+
+  -- the state is the one that the record met
+  left-met : {r : State} → Ready s k r → Left s k r k
+  left-met (stays p) = left-all
+  left-met (begins p b) = record {
+    state = inr b;
+    table = ap (λ (x : State). tableOf x (k .starts) (k .ends) (k .costs)) (b .kept);
+    rows = ap (λ (x : State). waiting x (k .changed) (k .newcosts)) (b .kept);
+    list = refl;
+  }
+
+  left-network : (nodes root : ℕ) (v : Verdict) {n : ℕ} → networked v s nodes root .out ≡ Refused n → Left s k (networked v s nodes root .state) k
+  left-network nodes root accepted q = absurd (not-nothing q)
+  left-network nodes root (refused number value) q = left-all
+
+  left-link : (start end cost : ℕ) (v : Verdict) {n : ℕ} → linked v s .out ≡ Refused n → Left s k (linked v s .state) (linkLists s k start end cost)
+  left-link start end cost accepted q = absurd (not-nothing q)
+  left-link start end cost (refused number value) q = record {
+    state = inl refl;
+    table = rw (
+      take-set-le (s .links) (k .starts) (s .links) start (omega arith),
+      take-set-le (s .links) (k .ends) (s .links) end (omega arith),
+      take-set-le (s .links) (k .costs) (s .links) cost (omega arith),
+    ) refl;
+    rows = refl;
+    list = refl;
+  }
+
+  left-change : {r : State} → Ready s k r → (named cost : ℕ) (v : Verdict) {n : ℕ} → changing v r .out ≡ Refused n → Left s k (changing v r .state) (changeLists r k named cost)
+  left-change ready named cost accepted q = absurd (not-nothing q)
+  left-change {r} ready named cost (refused number value) q =
+      let at = left-met ready in
+      record {
+        state = at .state;
+        table = at .table;
+        rows = rw (
+          take-set-le (r .rows) (k .changed) (r .rows) named (omega arith),
+          take-set-le (r .rows) (k .newcosts) (r .rows) cost (omega arith),
+        ) (at .rows);
+        list = refl;
+      }
+
+-- a refused record changes nothing that counts
+pub refused-leaves : {s : State} {k : Lists} {item : Item} {d : Done} {l : Lists} {n : ℕ} → Steps s k item d l → d .out ≡ Refused n → Left s k (d .state) l
+refused-leaves (out-of-order e) q = left-all
+refused-leaves unknown q = left-all
+refused-leaves cut q = left-all
+refused-leaves (ended e) q = absurd (not-nothing q)
+refused-leaves (network {nodes} {root} p) q = left-network nodes root (judgeLinks (table nodes root [] [] [])) q
+refused-leaves {s} {k} (link {start} {end} {cost} p) q = left-link start end cost (linkVerdict s k start end cost) q
+refused-leaves {s} {k} (change {link = named} {cost} {r} ready) q = left-change ready named cost (changeVerdict r k named cost) q
+refused-leaves (apply ready a) q = absurd (not-changed (sym (a .told) ∙ q))
+refused-leaves (ask ready) q = left-met ready
