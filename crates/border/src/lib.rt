@@ -1,13 +1,16 @@
 // The jobs for programs in other languages. A tree is lent as its three arrays of 256; the answer's number is handed
 // back, 0 for acceptance, and the value that it carries is written beside it.
 ghost use mathlib.Core.Path.{_≡_};
+ghost use Rattle.stream.specs.Records.{readAt};
 ghost use Rattle.rules.specs.Columns.{table, arrays};
 ghost use Rattle.rules.specs.Refusals.{judgeLinks, judgeTree};
 ghost use Rattle.rules.specs.Jobs.{Built, Updated, Pathed};
 ghost use Rattle.batch.specs.Rows.{rowsOfColumns};
 ghost use Rattle.rules.specs.Answers.{numberOf, valueOf};
 ghost use Rattle.border.specs.Verdicts.{verdict};
+ghost use Rattle.border.specs.Readings.{HandedBack, partsOf};
 use rules::Answer;
+use stream::Item;
 use tree::Tree;
 
 // The number, with the value written.
@@ -104,7 +107,7 @@ pub extern "C" fn routes_update(
         parent: p,
         first: f,
     };
-    let updated = old.update(nodes, root, starts, ends, costs, changed, newcosts, list);
+    let updated = old.update_columns(nodes, root, starts, ends, costs, changed, newcosts, list);
     let tree = updated.tree;
     let d = tree.dist;
     let p = tree.parent;
@@ -146,4 +149,70 @@ pub extern "C" fn routes_path(
     *count = told.count;
     let answer = told.answer;
     tell(answer, value)
+}
+
+// A record as other languages take it: its kind, and its numbers with 0 in the places that it doesn't have. Where there
+// is none, all of it is 0.
+struct Parts {
+    kind: u8,
+    numbers: [u16; 3],
+}
+
+fn take_apart(item: Item) -> Parts
+    ensures { λ r. ⌜ r ≡ partsOf item ⌝ }
+{
+    match item {
+        Item::Network { nodes, root } => Parts {
+            kind: 1,
+            numbers: [nodes, root, 0],
+        },
+        Item::Link { start, end, cost } => Parts {
+            kind: 2,
+            numbers: [start, end, cost],
+        },
+        Item::Change { link, cost } => Parts {
+            kind: 3,
+            numbers: [link, cost, 0],
+        },
+        Item::Apply => Parts {
+            kind: 4,
+            numbers: [0, 0, 0],
+        },
+        Item::Ask { node } => Parts {
+            kind: 5,
+            numbers: [node, 0, 0],
+        },
+        Item::End => Parts {
+            kind: 0,
+            numbers: [0, 0, 0],
+        },
+        Item::UnknownKind(_) => Parts {
+            kind: 0,
+            numbers: [0, 0, 0],
+        },
+        Item::CutShort(_) => Parts {
+            kind: 0,
+            numbers: [0, 0, 0],
+        },
+    }
+}
+
+#[no_mangle]
+pub extern "C" fn routes_read(
+    bytes: &[u8],
+    place: usize,
+    kind: &mut u8,
+    numbers: &mut [u16; 3],
+    next: &mut usize,
+) -> u16
+    ensures { λ r. ⌜ HandedBack (readAt (now (bytes .entry)) place) r (now (kind .exit)) (now (numbers .exit)) (now (next .exit)) ⌝ }
+{
+    let read = stream::read_at(bytes, place);
+    let item = read.item;
+    let told = take_apart(item);
+    let three = told.numbers;
+    *kind = told.kind;
+    *numbers = three;
+    *next = read.next;
+    stream::number(item)
 }

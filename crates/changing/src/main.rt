@@ -119,7 +119,7 @@ fn update_in(
 ) -> Tree
     requires { ⌜ room ≤ length (now list) ⌝ }
 {
-    let next = t.update(
+    let next = t.update_columns(
         nodes,
         root,
         starts,

@@ -240,7 +240,7 @@ pub fn apply(
     let links = state.links;
     let rows = state.rows;
     let tree = state.tree;
-    let next = tree.update(
+    let next = tree.update_columns(
         state.nodes,
         state.root,
         &starts[..links],

@@ -1,15 +1,18 @@
 // The tree of shortest routes, which travels by value, and the jobs over it. Inside a job its arrays are lent.
 ghost use mathlib.Core.Path.{_≡_};
-ghost use Prim.Native.Nat.{_<_};
+ghost use Prim.Native.Nat.{_≤_};
 ghost use Rattle.rules.specs.Answers.{told};
-ghost use Rattle.rules.specs.Columns.{Proper, table, emptyTree, unreached};
+ghost use Rattle.rules.specs.Columns.{Proper, table, emptyTree};
 ghost use Rattle.rules.specs.Refusals.{judgeTree};
 ghost use Rattle.rules.specs.Jobs.{Built, Updated, Pathed};
 ghost use Rattle.batch.specs.Rows.{rowsOfColumns};
+ghost use Rattle.gather.specs.Gathering.{mostRead, rowsOf};
 ghost use Rattle.grow.specs.Grown.{Grown};
 ghost use Rattle.tree.specs.Value.{valueOf, withRow};
+use gather::Rows;
 use path::Traced;
 use rules::Answer;
+use rules::Change;
 
 // For each of 256 nodes a distance, a parent link and a first link. Any numbers may stand in it: every job judges it.
 pub struct Tree {
@@ -132,9 +135,55 @@ impl Tree {
         }
     }
 
-    // Update: refusals 1 to 9 and 12. The batch comes as two columns, a link and a new cost for each row. An accepted
-    // batch writes its costs and lists the changed nodes; a refused one leaves tree, costs and list as they came.
+    // Update: refusals 1 to 9 and 12. An accepted batch writes its costs and lists the changed nodes; a refused one leaves
+    // tree, costs and list as they came.
     pub fn update(
+        self,
+        nodes: usize,
+        root: usize,
+        starts: &[u16],
+        ends: &[u16],
+        costs: &mut [u16],
+        batch: &[Change],
+        list: &mut [u16],
+    ) -> NextTree
+        ensures { λ r. ⌜ Updated (table nodes root (now (starts .entry)) (now (ends .entry)) (now (costs .entry))) (valueOf self) (now (batch .entry)) (now (list .entry)) (told (r .answer)) (valueOf (r .tree)) (now (costs .exit)) (now (list .exit)) (r .count) ⌝ }
+    {
+        let rows = gather::gather(batch);
+        self.update_rows(nodes, root, starts, ends, costs, rows, list)
+    }
+
+    // The same, for rows that were gathered from a batch.
+    fn update_rows(
+        self,
+        nodes: usize,
+        root: usize,
+        starts: &[u16],
+        ends: &[u16],
+        costs: &mut [u16],
+        rows: Rows,
+        list: &mut [u16],
+    ) -> NextTree
+        requires { ⌜ rows .count ≤ mostRead ⌝ }
+        ensures { λ r. ⌜ Updated (table nodes root (now (starts .entry)) (now (ends .entry)) (now (costs .entry))) (valueOf self) (rowsOf rows) (now (list .entry)) (told (r .answer)) (valueOf (r .tree)) (now (costs .exit)) (now (list .exit)) (r .count) ⌝ }
+    {
+        let changed = rows.link;
+        let newcosts = rows.cost;
+        let count = rows.count;
+        self.update_columns(
+            nodes,
+            root,
+            starts,
+            ends,
+            costs,
+            &changed[..count],
+            &newcosts[..count],
+            list,
+        )
+    }
+
+    // The same, for a batch that comes as two columns, a link and a new cost for each row.
+    pub fn update_columns(
         mut self,
         nodes: usize,
         root: usize,

@@ -4,8 +4,8 @@ use borrow.Author.Needs.{needs}
 use Rattle.border.proofs.routes_update.Statement.{statement}
 use Rattle.border.proofs.routes_update.Tie as tie
 
-update-requires : tie.Need-update-requires
-update-requires c κs = search needs
+update-columns-requires : tie.Need-update-columns-requires
+update-columns-requires c κs = search needs
 
 tell-requires : tie.Need-tell-requires
 tell-requires c κs = search needs
@@ -18,9 +18,9 @@ same-length-2 c = search needs
 
 returns : tie.Need-returns
 returns c =
-    let job = c .before .before .before .before .before .before .before .before .before .before .update in
+    let job = c .before .before .before .before .before .before .before .before .before .before .update-columns in
     rw (verdict-told (job .result .answer) (c .tell .ensures .0) (c .tell .ensures .1)) (job .ensures)
 
 pub routes-update-spec : {M : Type 1} → statement M
 routes-update-spec =
-    tie.close (tie.spec update-requires tell-requires same-length same-length-2 returns)
+    tie.close (tie.spec update-columns-requires tell-requires same-length same-length-2 returns)

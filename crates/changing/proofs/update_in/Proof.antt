@@ -6,14 +6,14 @@ use borrow.Author.Needs.{needs}
 use Rattle.changing.proofs.update_in.Statement.{statement}
 use Rattle.changing.proofs.update_in.Tie as tie
 
-slice-relend-prefix-update : tie.Need-slice-relend-prefix-update
-slice-relend-prefix-update c = search needs
+slice-relend-prefix-update-columns : tie.Need-slice-relend-prefix-update-columns
+slice-relend-prefix-update-columns c = search needs
 
-slice-aggregate-update : tie.Need-slice-aggregate-update
-slice-aggregate-update c = simp length-take (omega arith)
+slice-aggregate-update-columns : tie.Need-slice-aggregate-update-columns
+slice-aggregate-update-columns c = simp length-take (omega arith)
 
-update-requires : tie.Need-update-requires
-update-requires c κs = search needs
+update-columns-requires : tie.Need-update-columns-requires
+update-columns-requires c κs = search needs
 
 say-answer-requires : tie.Need-say-answer-requires
 say-answer-requires c κs = search needs
@@ -34,9 +34,9 @@ pub update-in-spec : {M : Type 1} → statement M
 update-in-spec =
     tie.close
     (tie.spec
-    slice-relend-prefix-update
-    slice-aggregate-update
-    update-requires
+    slice-relend-prefix-update-columns
+    slice-aggregate-update-columns
+    update-columns-requires
     say-answer-requires
     say-number-requires
     same-length

@@ -7,26 +7,26 @@ use Rattle.session.proofs.Laws.{apply-updated, apply-beyond}
 use Rattle.session.proofs.apply.Statement.{statement}
 use Rattle.session.proofs.apply.Tie as tie
 
-slice-aggregate-update : tie.Need-slice-aggregate-update
-slice-aggregate-update c = sym (length-take-le _ _ (omega (arith, c .before .before .before .before .before .before .before .before .pre .0 .few-links, c .before .before .before .before .before .before .before .before .pre .0 .columns .starts-long)))
+slice-aggregate-update-columns : tie.Need-slice-aggregate-update-columns
+slice-aggregate-update-columns c = sym (length-take-le _ _ (omega (arith, c .before .before .before .before .before .before .before .before .pre .0 .few-links, c .before .before .before .before .before .before .before .before .pre .0 .columns .starts-long)))
 
-slice-aggregate-update-2 : tie.Need-slice-aggregate-update-2
-slice-aggregate-update-2 c = sym (length-take-le _ _ (omega (arith, c .before .before .before .before .before .before .before .before .before .pre .0 .few-links, c .before .before .before .before .before .before .before .before .before .pre .0 .columns .ends-long)))
+slice-aggregate-update-columns-2 : tie.Need-slice-aggregate-update-columns-2
+slice-aggregate-update-columns-2 c = sym (length-take-le _ _ (omega (arith, c .before .before .before .before .before .before .before .before .before .pre .0 .few-links, c .before .before .before .before .before .before .before .before .before .pre .0 .columns .ends-long)))
 
-slice-relend-prefix-update : tie.Need-slice-relend-prefix-update
-slice-relend-prefix-update c = omega (arith, c .before .before .before .before .before .before .before .before .before .pre .0 .few-links, c .before .before .before .before .before .before .before .before .before .pre .0 .columns .costs-long)
+slice-relend-prefix-update-columns : tie.Need-slice-relend-prefix-update-columns
+slice-relend-prefix-update-columns c = omega (arith, c .before .before .before .before .before .before .before .before .before .pre .0 .few-links, c .before .before .before .before .before .before .before .before .before .pre .0 .columns .costs-long)
 
-slice-aggregate-update-3 : tie.Need-slice-aggregate-update-3
-slice-aggregate-update-3 c = sym (length-take-le _ _ (omega (arith, c .before .before .before .before .before .before .before .before .before .before .pre .0 .few-links, c .before .before .before .before .before .before .before .before .before .before .pre .0 .columns .costs-long)))
+slice-aggregate-update-columns-3 : tie.Need-slice-aggregate-update-columns-3
+slice-aggregate-update-columns-3 c = sym (length-take-le _ _ (omega (arith, c .before .before .before .before .before .before .before .before .before .before .pre .0 .few-links, c .before .before .before .before .before .before .before .before .before .before .pre .0 .columns .costs-long)))
 
-slice-aggregate-update-4 : tie.Need-slice-aggregate-update-4
-slice-aggregate-update-4 c = sym (length-take-le _ _ (omega (arith, c .before .before .before .before .before .before .before .before .before .before .before .pre .0 .few-rows, c .before .before .before .before .before .before .before .before .before .before .before .pre .1 .changed-long)))
+slice-aggregate-update-columns-4 : tie.Need-slice-aggregate-update-columns-4
+slice-aggregate-update-columns-4 c = sym (length-take-le _ _ (omega (arith, c .before .before .before .before .before .before .before .before .before .before .before .pre .0 .few-rows, c .before .before .before .before .before .before .before .before .before .before .before .pre .1 .changed-long)))
 
-slice-aggregate-update-5 : tie.Need-slice-aggregate-update-5
-slice-aggregate-update-5 c = sym (length-take-le _ _ (omega (arith, c .before .before .before .before .before .before .before .before .before .before .before .before .pre .0 .few-rows, c .before .before .before .before .before .before .before .before .before .before .before .before .pre .1 .newcosts-long)))
+slice-aggregate-update-columns-5 : tie.Need-slice-aggregate-update-columns-5
+slice-aggregate-update-columns-5 c = sym (length-take-le _ _ (omega (arith, c .before .before .before .before .before .before .before .before .before .before .before .before .pre .0 .few-rows, c .before .before .before .before .before .before .before .before .before .before .before .before .pre .1 .newcosts-long)))
 
-update-requires : tie.Need-update-requires
-update-requires c κs = search needs
+update-columns-requires : tie.Need-update-columns-requires
+update-columns-requires c κs = search needs
 
 same-length : tie.Need-same-length
 same-length c = search needs
@@ -37,7 +37,7 @@ same-length-2 c = search needs
 returns : tie.Need-returns
 returns c =
     let at = c .before .before .before .before .before .before .before .before .before .before .before .before .before .before .before .before .before .before .before in
-    let job = c .before .before .before .before .before .update in
+    let job = c .before .before .before .before .before .update-columns in
     record {
       count = job .result .count;
       told = refl;
@@ -50,13 +50,13 @@ pub apply-spec : {M : Type 1} → statement M
 apply-spec =
     tie.close
     (tie.spec
-    slice-aggregate-update
-    slice-aggregate-update-2
-    slice-relend-prefix-update
-    slice-aggregate-update-3
-    slice-aggregate-update-4
-    slice-aggregate-update-5
-    update-requires
+    slice-aggregate-update-columns
+    slice-aggregate-update-columns-2
+    slice-relend-prefix-update-columns
+    slice-aggregate-update-columns-3
+    slice-aggregate-update-columns-4
+    slice-aggregate-update-columns-5
+    update-columns-requires
     same-length
     same-length-2
     returns)

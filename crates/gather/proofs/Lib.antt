@@ -1,0 +1,3 @@
+-- Theorems about specs/, and the lemmas that the functions' proofs share, in reading order.
+pub mod Laws
+pub mod Cut
