@@ -1,34 +1,71 @@
 # What people type. `rt` is the toolchain's command.
-.PHONY: test room compare example rust-test clean
+.PHONY: run test room compare bench bench-peers example c-example rust-example rust-test records records-test streams archive program clean
 
-# Proves every crate from nothing, tries each must-fail edit, runs each program and compares what it prints.
+# The pier network through the program `routes`.
+run:
+	@./run
+
+# Everything: proves every crate from nothing, tries each must-fail edit, runs each program and compares what it prints;
+# then the example in C, the Rust crates' tests, the stored streams and the comparison.
 test:
-	@rt ci
+	@./test
+
+# The archive for other languages, and the program `routes`, proved and written: nothing is said where that goes well.
+# PROVED=yes takes them as they stand.
+quietly = mkdir -p target && $(1) >target/said.log || { cat target/said.log; false; }
+
+archive:
+	@[ -n "$(PROVED)" ] || { $(call quietly,rt staticlib border); }
+
+program:
+	@[ -n "$(PROVED)" ] || { $(call quietly,rt check routes); }
 
 # How much of the stack each job takes, measured on the compiled archive.
-room:
-	@rt staticlib border >/dev/null
+room: archive
 	@mkdir -p target/tests
 	@rustc -O -o target/tests/room tests/room.rs -L target/staticlib -l static=border
 	@target/tests/room
 
-# The product compared with an independent calculation, on cases made from fixed seeds (rust/src/bin/compare).
-compare:
-	@rt staticlib border >/dev/null
-	@cd rust && cargo run --offline --quiet --release --bin compare -- $(FROM)
+# The product compared with an independent calculation, on cases and streams from fixed seeds (rust/src/bin/compare).
+# PART=jobs or PART=streams compares only these; FROM=100000000 takes other seeds.
+compare: archive program
+	@cd rust && cargo run --offline --quiet --release --bin compare -- $(PART) $(FROM)
+
+# What it costs, against a plain program that rebuilds from nothing: writes the table of docs/COST.md and its picture.
+bench: room program
+	@bench/peers/build.sh
+	@cd bench && cargo build --offline --quiet --release
+	@target/rust/release/bench
+
+# Installs the libraries that `make bench` sets beside the product where it finds them.
+bench-peers:
+	@bench/install.sh
 
 # The pier network through the C functions, and through the Rust crate.
-example:
-	@rt staticlib border >/dev/null
+example: c-example rust-example
+
+c-example: archive
 	@mkdir -p target/tests
 	@cc -std=c11 -Wall -Wextra -Wpedantic -Iinclude -o target/tests/pier tests/c/pier.c target/staticlib/libborder.a
 	@target/tests/pier
+
+rust-example: archive
 	@cd rust && cargo run --offline --quiet --release --example pier
 
-# The examples in the Rust crate's documentation.
-rust-test:
-	@rt staticlib border >/dev/null
+# The Rust crate's tests, and the examples in its documentation.
+rust-test: archive
 	@cd rust && cargo test --offline --quiet
+
+# The converter of record streams between text and bytes: target/rust/release/records. It needs nothing proved.
+records:
+	@cd rust && cargo build --offline --quiet --release -p records
+
+records-test:
+	@cd rust && cargo test --offline --quiet -p records
+
+# Each stream of tests/streams through the program.
+streams: records program
+	@tests/streams.sh target/rust/release/records target/bin/routes
 
 clean:
 	rm -rf target

@@ -48,12 +48,24 @@ enum routes_answer {
     ROUTES_ROW_NAMES_LINK_AGAIN = 9,  /* a row names a link of an earlier row; value: that row */
     ROUTES_ASKED_NO_NODE = 10,        /* asked node not below the node count */
     ROUTES_ASKED_UNREACHED = 11,      /* asked node is unreached */
-    ROUTES_LIST_TOO_SHORT = 12        /* list under the node count (update) or under the path's length (path) */
+    ROUTES_LIST_TOO_SHORT = 12,       /* list under the node count (update) or under the path's length (path) */
+    ROUTES_UNKNOWN_KIND = 21,         /* no record has this kind (read) */
+    ROUTES_CUT_SHORT = 22             /* the stream ends within the record's body (read) */
 };
 
-/* The table of links, which every function takes first: the node count, the root, and for each link its start, its end
- * and its cost, a column each. A link's number is its place. Starts never fall; a cost of 0 means that the link is down.
- */
+/* The kinds of records, each with the numbers of its body, 16 bits each. */
+enum routes_kind {
+    ROUTES_END = 0,     /* no record */
+    ROUTES_NETWORK = 1, /* node count, root */
+    ROUTES_LINK = 2,    /* start, end, cost */
+    ROUTES_CHANGE = 3,  /* link, new cost */
+    ROUTES_APPLY = 4,   /* none */
+    ROUTES_ASK = 5      /* node */
+};
+
+/* The table of links, which every function but routes_read takes first: the node count, the root, and for each link its
+ * start, its end and its cost, a column each. A link's number is its place. Starts never fall; a cost of 0 means that the
+ * link is down. */
 
 /* Judges a table of links: refusals 1 to 5. Writes *value alone. */
 uint16_t routes_judge_links(
@@ -116,6 +128,18 @@ uint16_t routes_path(
     size_t node,
     uint16_t *list, size_t list_len,
     size_t *count, uint16_t *value);
+
+/* Reads the record whose kind byte stands at a place of a record stream: refusals 21 and 22. Any place may be given, and
+ * any length: this is the reader alone, which judges neither the order of the records nor their numbers.
+ *
+ * A record: *kind is its kind, the front of numbers its body's numbers with 0 in the places behind them, and *next the
+ * place behind the record.
+ * The end, which is any place at or past the length: *kind is ROUTES_END, all numbers are 0, and *next is place.
+ * Refused: the same, with the refusal's number handed back. The refusal's place is that of the kind byte, so place.
+ * *kind, the three numbers and *next are written by every call, refused or not, and never read. */
+uint16_t routes_read(
+    const uint8_t *stream, size_t stream_len, size_t place,
+    uint8_t *kind, uint16_t numbers[3], size_t *next);
 
 #ifdef __cplusplus
 }

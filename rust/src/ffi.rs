@@ -34,6 +34,9 @@ extern "C" {
         costs: Pointer, costs_len: usize, dist: *const u32, parent: Pointer, first: Pointer, node: usize,
         list: Place, list_len: usize, count: *mut usize, value: Place,
     ) -> u16;
+    fn routes_read(
+        stream: *const u8, stream_len: usize, place: usize, kind: *mut u8, numbers: Place, next: *mut usize,
+    ) -> u16;
 }
 
 /// What a call answers, as it comes: a number, 0 for acceptance, the value beside it, and for an update and a path how
@@ -131,4 +134,26 @@ pub fn path(
         )
     };
     Reply { number, value, count }
+}
+
+/// What the reader hands back, as it comes.
+#[derive(Debug, Clone, Copy, PartialEq, Eq)]
+pub struct Reading {
+    /// 0, or the refusal's number.
+    pub number: u16,
+    /// The record's kind, and 0 at the end and with a refusal.
+    pub kind: u8,
+    /// The numbers of its body, and 0 in the places behind them.
+    pub numbers: [u16; 3],
+    /// The place behind the record; at the end and with a refusal the same place again.
+    pub next: usize,
+}
+
+/// Reads the record at a place of a stream: refusals 21 and 22.
+pub fn read(stream: &[u8], place: usize) -> Reading {
+    let (mut kind, mut numbers, mut next) = (u8::MAX, [UNWRITTEN.value; 3], UNWRITTEN.count);
+    let number = unsafe {
+        routes_read(stream.as_ptr(), stream.len(), place, &mut kind, numbers.as_mut_ptr(), &mut next)
+    };
+    Reading { number, kind, numbers, next }
 }

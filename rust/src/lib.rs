@@ -1,6 +1,6 @@
 //! The route calculation for programs in Rust: judging a table of links, a fresh tree of shortest routes, the update of
-//! a tree after a batch of cost changes, and the path to a node. The work is done by the proved functions of
-//! `crates/border`; this crate lends them memory and reads their answers.
+//! a tree after a batch of cost changes, the path to a node, and the reader of the record stream. The work is done by
+//! the proved functions of `crates/border`; this crate lends them memory and reads their answers.
 //!
 //! ```
 //! use routes::{Change, Network, Tree};
@@ -29,10 +29,12 @@
 pub mod ffi;
 mod network;
 mod refusal;
+mod stream;
 mod tree;
 
 pub use network::{Change, Network};
 pub use refusal::Refusal;
+pub use stream::{Record, Records, Unreadable};
 pub use tree::Tree;
 
 /// The most nodes that a network may have, and how many rows a tree has.

@@ -1,5 +1,5 @@
 /* The pier network through the C functions: P1, P2, P4, a path and a refusal, each compared with the rows that it must
- * give.
+ * give; and the scope's stream of 85 bytes through the reader.
  *
  *     make example
  */
@@ -53,7 +53,40 @@ static uint16_t update(size_t n, const uint16_t *links, const uint16_t *prices) 
                          list, ROUTES_NODES, &count, &value);
 }
 
+static const uint8_t stream[85] = {
+    1, 0, 4, 0, 0,                                                                /* NETWORK */
+    2, 0, 0, 0, 1, 0, 4, 2, 0, 0, 0, 2, 0, 7, 2, 0, 1, 0, 0, 0, 4, 2, 0, 1, 0, 2, 0, 2, /* LINKs */
+    2, 0, 2, 0, 0, 0, 7, 2, 0, 2, 0, 1, 0, 2, 2, 0, 2, 0, 3, 0, 1, 2, 0, 3, 0, 2, 0, 1,
+    5, 0, 2, 3, 0, 3, 0, 5, 3, 0, 0, 0, 2, 4,                                     /* ASK, P2's CHANGEs, APPLY */
+    3, 0, 3, 0, 6, 4, 5, 0, 3, 9,                                                 /* P4's CHANGE, APPLY, ASK, no kind */
+};
+
+/* Reads the stream: its LINKs are the table, and its last byte is no record. */
+static void read_stream(void) {
+    uint8_t kind;
+    uint16_t numbers[3];
+    size_t place = 0, next, records = 0, links = 0, changes = 0;
+    while (routes_read(stream, sizeof stream, place, &kind, numbers, &next) == 0 && kind != ROUTES_END) {
+        if (kind == ROUTES_LINK && links < LINKS && numbers[0] == starts[links] && numbers[1] == ends[links] &&
+            numbers[2] == costs[links])
+            links++;
+        changes += kind == ROUTES_CHANGE && numbers[2] == 0;
+        records++;
+        place = next;
+    }
+    hold(records == 16 && links == LINKS && changes == 3, "the stream's 16 records");
+    hold(place == 84 && kind == ROUTES_END && next == 84, "the reader stands still at its byte 9");
+    hold(routes_read(stream, 85, 84, &kind, numbers, &next) == ROUTES_UNKNOWN_KIND, "which is refusal 21");
+    hold(routes_read(stream, 83, 81, &kind, numbers, &next) == ROUTES_CUT_SHORT && next == 81,
+         "an ASK cut short is refusal 22");
+    hold(routes_read(stream, 84, 84, &kind, numbers, &next) == 0 && kind == ROUTES_END && next == 84,
+         "the stream's end");
+    hold(routes_read(stream, 0, SIZE_MAX, &kind, numbers, &next) == 0 && kind == ROUTES_END && next == SIZE_MAX,
+         "a place past the end");
+}
+
 int main(void) {
+    read_stream();
     hold(routes_judge_links(NODES, 0, starts, LINKS, ends, LINKS, costs, LINKS, &value) == ROUTES_ACCEPTED,
          "the table is accepted");
 

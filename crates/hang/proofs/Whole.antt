@@ -13,7 +13,7 @@ use Rattle.rules.specs.Keep.{Choice}
 use Rattle.rules.specs.Columns.{Table, netOf, rowsOf, arrays, mostNodes, unreached, noLink}
 use Rattle.rules.proofs.Judged.{legal}
 use Rattle.hang.specs.Ready.{Ready, Hanged}
-use Rattle.hang.specs.Passes.{Given, Tightly, Kept, keeps, drops, Filled, stays, takes, lacks, AllKept, AllFilled, Has, Rising, FirstOf, Firsts}
+use Rattle.hang.specs.Passes.{Given, Tightly, Kept, keeps, drops, Smallest, finds, lacks, Filled, stays, takes, AllKept, AllFilled, Has, Rising, FirstOf, Firsts}
 use Rattle.hang.proofs.Distances.{some-tight, root-not-tight, mark-not-tight, offered}
 use Rattle.hang.proofs.Parents.{none-not-tight}
 use Rattle.hang.proofs.Firsts.{first-hangs, first-near, first-far, first-one}
@@ -36,14 +36,12 @@ pub data Picked (Tight : ℕ → Type 0) (old new : ℕ) : Type 0 where
   on-smallest : ¬ (Tight old) → Tight new → ((j : ℕ) → Tight j → new ≤ j) → Picked Tight old new
   on-none : new ≡ noLink → ((j : ℕ) → ¬ (Tight j)) → Picked Tight old new
 
-picked : {Tight : ℕ → Type 0} {links old mid new : ℕ} → ¬ (Tight noLink) → ((j : ℕ) → Tight j → j < links) → Kept Tight old mid → Filled Tight links mid new
-    → Picked Tight old new
-picked z l (keeps a e) (stays n q) = on-old a (q ∙ e)
-picked z l (keeps a e) (takes o b s) = absurd (z (rw (← o, e) a))
-picked z l (keeps a e) (lacks o q none) = absurd (z (rw (← o, e) a))
-picked z l (drops f e) (stays n q) = absurd (n e)
-picked z l (drops f e) (takes o b s) = on-smallest f b s
-picked z l (drops f e) (lacks o q none) = on-none q (λ j a. none j (l j a) a)
+picked : {Tight : ℕ → Type 0} {old mid new : ℕ} → ¬ (Tight noLink) → Kept Tight old mid → Filled (Smallest Tight 0) mid new → Picked Tight old new
+picked z (keeps a e) (stays n q) = on-old a (q ∙ e)
+picked z (keeps a e) (takes o f) = absurd (z (rw (← o, e) a))
+picked z (drops f e) (stays n q) = absurd (n e)
+picked z (drops f e) (takes o (finds l b s)) = on-smallest f b (λ j a. s j (omega arith) a)
+picked z (drops f e) (takes o (lacks q none)) = on-none q (λ j a. none j (omega arith) a)
 
 -- ---- parents
 
@@ -53,8 +51,8 @@ pub record AllPicked (t : Table) (dist old parent : List ℕ) : Type 0 where
 
 module _ {t : Table} {dist old first₀ : List ℕ} (a : Ready t dist old first₀) where
   pub all-picked : {mid parent : List ℕ} → AllKept (t .starts) (t .ends) (t .costs) dist old mid
-      → AllFilled (t .starts) (t .ends) (t .costs) dist (length (t .starts)) mid parent → AllPicked t dist old parent
-  all-picked k f = record { long = f .long; each = λ v. picked (none-not-tight (ready-given a)) (λ j b. b .is-link) (k .each v) (f .each v) }
+      → AllFilled (t .starts) (t .ends) (t .costs) dist mid parent → AllPicked t dist old parent
+  all-picked k f = record { long = f .long; each = λ v. picked (none-not-tight (ready-given a)) (k .each v) (f .each v) }
 
 module _ {t : Table} {dist old first₀ : List ℕ} (a : Ready t dist old first₀) {parent : List ℕ} (p : AllPicked t dist old parent) (first : List ℕ) where
   abbrev N : Net

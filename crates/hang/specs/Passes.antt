@@ -40,11 +40,20 @@ pub data Kept (Tight : ℕ → Type 0) (old new : ℕ) : Type 0 where
   keeps : Tight old → new ≡ old → Kept Tight old new
   drops : ¬ (Tight old) → new ≡ noLink → Kept Tight old new
 
--- of the links before k, a node that had none takes the first that is tight; one that had a link stays on it
-pub data Filled (Tight : ℕ → Type 0) (k old new : ℕ) : Type 0 where
-  stays : old ≢ noLink → new ≡ old → Filled Tight k old new
-  takes : old ≡ noLink → Tight new → ((j : ℕ) → Tight j → new ≤ j) → Filled Tight k old new
-  lacks : old ≡ noLink → new ≡ noLink → ((j : ℕ) → j < k → ¬ (Tight j)) → Filled Tight k old new
+-- of the links from k on, the smallest that is tight; none where none is
+pub data Smallest (Tight : ℕ → Type 0) (k found : ℕ) : Type 0 where
+  finds : k ≤ found → Tight found → ((j : ℕ) → k ≤ j → Tight j → found ≤ j) → Smallest Tight k found
+  lacks : found ≡ noLink → ((j : ℕ) → k ≤ j → ¬ (Tight j)) → Smallest Tight k found
+
+-- how far from its node's place a link's number is written: at it where the link is tight, else past all nodes
+pub data Aside (tight : Type 0) (far : ℕ) : Type 0 where
+  not-aside : tight → far ≡ 0 → Aside tight far
+  aside : ¬ tight → far ≡ mostNodes → Aside tight far
+
+-- a node that has a link stays on it, and one that has none takes what was found
+pub data Filled (Found : ℕ → Type 0) (old new : ℕ) : Type 0 where
+  stays : old ≢ noLink → new ≡ old → Filled Found old new
+  takes : old ≡ noLink → Found new → Filled Found old new
 
 -- the same of every node
 module _ (starts ends costs dist : List ℕ) where
@@ -52,9 +61,14 @@ module _ (starts ends costs dist : List ℕ) where
     pub long : length new ≡ mostNodes
     pub each : (v : ℕ) → Kept (Tightly starts ends costs dist v) (getD old v noLink) (getD new v noLink)
 
-  pub record AllFilled (k : ℕ) (old new : List ℕ) : Type 0 where
+  -- what the links from k on give each node that has no link; past the nodes, as many places hold anything
+  pub record AllFound (k : ℕ) (old found : List ℕ) : Type 0 where
+    pub long : length found ≡ mostNodes + mostNodes
+    pub each : (v : ℕ) → v < mostNodes → getD old v noLink ≡ noLink → Smallest (Tightly starts ends costs dist v) k (getD found v noLink)
+
+  pub record AllFilled (old new : List ℕ) : Type 0 where
     pub long : length new ≡ mostNodes
-    pub each : (v : ℕ) → Filled (Tightly starts ends costs dist v) k (getD old v noLink) (getD new v noLink)
+    pub each : (v : ℕ) → Filled (Smallest (Tightly starts ends costs dist v) 0) (getD old v noLink) (getD new v noLink)
 
 -- ---- first links
 

@@ -5,7 +5,7 @@ ghost use Prim.Native.Nat.{_≤_, _<_};
 ghost use lib.ListN.{length, getD, replicate};
 ghost use Rattle.rules.specs.Columns.{mostNodes, noLink, unreached, table};
 ghost use Rattle.hang.specs.Ready.{Ready, Hanged};
-ghost use Rattle.hang.specs.Passes.{Tells, Given, Exact, Tightly, Kept, AllKept, AllFilled, Has, Rising, FirstOf, Known, Spread, Firsts};
+ghost use Rattle.hang.specs.Passes.{Tells, Given, Exact, Tightly, Kept, AllKept, Aside, AllFound, Filled, AllFilled, Has, Rising, FirstOf, Known, Spread, Firsts};
 
 const NODES: usize = 256;
 
@@ -21,7 +21,7 @@ fn usable(cost: u32) -> bool
 }
 
 // From a node at distance `start`, a usable link of this cost gives exactly the distance `own`. The sum is made in 64
-// bits, where it can't wrap; few links pass its test, so what is seldom false is asked last.
+// bits, where it can't wrap.
 fn tight(start: u32, cost: u32, own: u32) -> bool
     ensures { λ r. ⌜ Tells (Exact start cost own) r ⌝ }
 {
@@ -80,8 +80,54 @@ fn keep_tight(
     }
 }
 
-// Every node without a link takes the tight one of smallest number: links are asked in rising order, and a node that
-// has one asks for no more.
+// How far from the place of node `v` a link's number is written: at it where the link is tight, else 256 places on,
+// where no node has its place. Which links are tight can't be foretold, and a branch guessed wrong costs more than the
+// rest of a link; this number is added without one, where a choice between two places would compile to a branch.
+fn aside(dist: &[u32; 256], start: u16, cost: u16, v: usize) -> usize
+    requires { ⌜ (length (now dist) ≡ mostNodes) × (start < mostNodes) × (v < mostNodes) ⌝ }
+    ensures { λ r. ⌜ Aside (Exact (getD (now (dist .entry)) start unreached) cost (getD (now (dist .entry)) v unreached)) r ⌝ }
+{
+    if tight_into(dist, start, cost, v) {
+        0
+    } else {
+        NODES
+    }
+}
+
+// For every node without a link, the tight one of smallest number. Links are asked from the last to the first, and each
+// tight one is written over those before: the last written is the smallest. Whether a node asks isn't changed by the
+// pass: in a build nearly all do, in an update nearly none, so that branch is mostly guessed right.
+fn find_smallest(
+    starts: &[u16],
+    ends: &[u16],
+    costs: &[u16],
+    dist: &[u32; 256],
+    parent: &[u16; 256],
+) -> [u16; 512]
+    requires { ⌜ Given (now starts) (now ends) (now costs) (now dist) × (length (now parent) ≡ mostNodes) ⌝ }
+    ensures { λ r. ⌜ AllFound (now (starts .entry)) (now (ends .entry)) (now (costs .entry)) (now (dist .entry)) 0 (now (parent .entry)) r ⌝ }
+{
+    let mut found = [NO_LINK; 512];
+    let mut k = starts.len();
+    while 0 < k {
+        k -= 1;
+        let v = ends[k] as usize;
+        if parent[v] == NO_LINK {
+            let place = v + aside(dist, starts[k], costs[k], v);
+            found[place] = k as u16;
+        }
+    }
+    found
+}
+
+// A node stays on the link that it has; one that has none takes what was found.
+fn or_found(old: u16, found: u16) -> u16
+    ensures { λ r. ⌜ Filled (λ x. x ≡ found) old r ⌝ }
+{
+    if old == NO_LINK { found } else { old }
+}
+
+// Every node without a link takes the tight one of smallest number.
 fn take_smallest(
     starts: &[u16],
     ends: &[u16],
@@ -90,18 +136,13 @@ fn take_smallest(
     parent: &mut [u16; 256],
 )
     requires { ⌜ Given (now starts) (now ends) (now costs) (now dist) × (length (now parent) ≡ mostNodes) ⌝ }
-    ensures { λ _. ⌜ AllFilled (now (starts .entry)) (now (ends .entry)) (now (costs .entry)) (now (dist .entry)) (length (now (starts .entry))) (now (parent .entry)) (now (parent .exit)) ⌝ }
+    ensures { λ _. ⌜ AllFilled (now (starts .entry)) (now (ends .entry)) (now (costs .entry)) (now (dist .entry)) (now (parent .entry)) (now (parent .exit)) ⌝ }
 {
-    let mut k: usize = 0;
-    while k < starts.len() {
-        let next = k + 1;
-        let v = ends[k] as usize;
-        if parent[v] == NO_LINK {
-            if tight_into(dist, starts[k], costs[k], v) {
-                parent[v] = k as u16;
-            }
-        }
-        k = next;
+    let found = find_smallest(starts, ends, costs, dist, parent);
+    let mut v: usize = 0;
+    while v < NODES {
+        parent[v] = or_found(parent[v], found[v]);
+        v += 1;
     }
 }
 

@@ -31,7 +31,7 @@ pub record Moves (stream : List ℕ) (place next : ℕ) : Type 0 where
   pub on : place < next
   pub within : next ≤ length stream
 
-moves : {stream : List ℕ} {place : ℕ} {read : Read} → Stands stream place read → isRecord (read .item) ≡ true → Moves stream place (read .next)
+pub moves : {stream : List ℕ} {place : ℕ} {read : Read} → Stands stream place read → isRecord (read .item) ≡ true → Moves stream place (read .next)
 moves (at-end l) e = absurd (both e refl)
 moves (unknown l n) e = absurd (both e refl)
 moves (cut l k s) e = absurd (both e refl)

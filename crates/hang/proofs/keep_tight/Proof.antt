@@ -4,7 +4,7 @@ use Prim.Native.Nat.{_-_}
 use native.Mathlib.Omega.{arith}
 use borrow.Author.Needs.{needs}
 use Rattle.rules.specs.Columns.{mostNodes}
-use Rattle.hang.proofs.Parents.{Keeping, keeping-none, keeping-more, keeping-end}
+use Rattle.hang.proofs.Parents.{Keeping, passing-none, passing-more, all-kept}
 use Rattle.hang.proofs.keep_tight.Statement.{statement}
 use Rattle.hang.proofs.keep_tight.Tie as tie
 
@@ -15,7 +15,7 @@ abbrev μ-loop : tie.MeasureT-loop
 μ-loop starts ends costs dist parent₀ v₀ parent v = mostNodes - v
 
 loop-holds : tie.Need-loop-holds Inv-loop μ-loop
-loop-holds c = keeping-none (c .before .before .before .pre .1)
+loop-holds c = passing-none (c .before .before .before .pre .1)
 
 mul-kept : tie.Need-mul-kept Inv-loop μ-loop
 mul-kept c = search needs
@@ -39,12 +39,12 @@ loop-less : tie.Need-loop-less Inv-loop μ-loop
 loop-less c = search needs
 
 loop-again : tie.Need-loop-again Inv-loop μ-loop
-loop-again c = keeping-more (c .before .before .before .loop .inv) (omega arith) (c .kept .ensures)
+loop-again c = passing-more (c .before .before .before .loop .inv) (omega arith) (c .kept .ensures)
 
 returns : tie.Need-returns Inv-loop μ-loop
 returns c =
     let start = c .before .before .before .before .before in
-    keeping-end (start .pre .0) (c .before .loop .inv) (omega arith) (start .pre .1)
+    all-kept (start .pre .0) (c .before .loop .inv) (omega arith) (start .pre .1)
 
 pub keep-tight-spec : {M : Type 1} → statement M
 keep-tight-spec =

@@ -2,18 +2,32 @@
 // scope's words alone. What is compared: the number and value answered, the whole tree, the cost column, the lent list
 // with the places that must stay, the memory beside them, and the count.
 //
+// It does the same for the program `routes`, stream by stream: `interpret` says what must be printed.
+//
 //     make compare
 //
 // Seeds are fixed, so each run compares the same cases. On a difference it tells the seed and the smallest case found.
 // With a number behind it (`make compare FROM=100000000`) it takes the seeds from there on, and so compares other cases.
+// With `jobs` or `streams` before that it compares only these.
 #![forbid(unsafe_code)]
 
+mod astray;
 mod case;
+mod interpret;
+mod listen;
 mod make;
 mod pier;
 mod product;
+mod program;
+mod reader;
 mod reckon;
+// The converter of streams, a crate of its own.
+#[path = "../../../records/src/lib.rs"]
+mod records;
+mod shorten;
 mod shrink;
+mod stated;
+mod streams;
 mod wrong;
 
 use case::{check, Ask, Batch, Case, Edit, Entry, Tally, JOBS};
@@ -216,8 +230,7 @@ fn seeded(c: &mut Comparison, from: u64) {
     });
 }
 
-fn main() {
-    let from = std::env::args().nth(1).map_or(0, |word| word.parse().expect("the first seed, a number"));
+fn jobs(from: u64) {
     let mut c = Comparison { tally: Tally::default(), cases: 0, began: Instant::now() };
     fixed(&mut c);
     seeded(&mut c, from);
@@ -227,4 +240,21 @@ fn main() {
     }
     wrong::all_found();
     println!("{} cases, {} calls compared in {:.1} s: 0 differ", c.cases, c.calls(), c.began.elapsed().as_secs_f32());
+}
+
+fn main() {
+    let mut words: Vec<String> = std::env::args().skip(1).collect();
+    let part =
+        if words.first().is_some_and(|word| word.parse::<u64>().is_err()) { words.remove(0) } else { String::new() };
+    let from = words.first().map_or(0, |word| word.parse().expect("the first seed, a number"));
+    match part.as_str() {
+        "" => {
+            listen::compare(from);
+            println!();
+            jobs(from);
+        }
+        "jobs" => jobs(from),
+        "streams" => listen::compare(from),
+        _ => panic!("{part} is neither jobs nor streams"),
+    }
 }

@@ -1,6 +1,8 @@
 // The product, through the C functions, and through the safe interface that stands on them.
+use crate::interpret::Record;
+use crate::reader::Reading;
 use crate::reckon::{Table, Told, Tree};
-use routes::{ffi, Change, Network, Refusal};
+use routes::{ffi, Change, Network, Records, Refusal};
 
 pub trait Product {
     fn judge_links(&self, t: &Table) -> Told;
@@ -127,4 +129,22 @@ impl Product for Safe {
         list[..links.len()].copy_from_slice(&links);
         (told.0, told.1, links.len())
     }
+}
+
+// The archive's reader.
+pub fn reading(stream: &[u8], place: usize) -> Reading {
+    let told = ffi::read(stream, place);
+    (told.number, told.kind, told.numbers, told.next)
+}
+
+// The records that the safe interface hands out, and at last the refusal's number and place.
+pub fn records(stream: &[u8]) -> Vec<Result<Record, (u16, usize)>> {
+    let own = |record| match record {
+        routes::Record::Network { nodes, root } => Record::Network { nodes, root },
+        routes::Record::Link { start, end, cost } => Record::Link { start, end, cost },
+        routes::Record::Change(Change { link, cost }) => Record::Change { link, cost },
+        routes::Record::Apply => Record::Apply,
+        routes::Record::Ask { node } => Record::Ask { node },
+    };
+    Records::new(stream).map(|read| read.map(own).map_err(|refusal| (refusal.number(), refusal.place()))).collect()
 }

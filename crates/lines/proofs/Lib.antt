@@ -1,0 +1,4 @@
+-- Theorems about specs/, and the lemmas that the functions' proofs share, in reading order.
+pub mod Laws
+pub mod Decimal
+pub mod Samples
