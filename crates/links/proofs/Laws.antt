@@ -1,13 +1,15 @@
--- The pass over the links, which makes two searches at once, and what decides a table's judgment. Assumes nothing.
-use mathlib.Core.Path.{_≡_, sym, _∙_}
+-- The pass over the links, which makes two searches at once, the count of wrong links that spares it, and what decides a
+-- table's judgment. Assumes nothing.
+use mathlib.Core.Path.{_≡_, refl, sym, _∙_}
 use mathlib.Core.Logic.{_⊎_, inl, inr}
-use mathlib.Core.Bool.{true, false}
+use mathlib.Core.Bool.{Bool, true, false, _||_}
 use Prim.Native.Nat.{ℕ, _+_, _-_, _≤_, _<_}
 use native.Mathlib.Omega.{arith}
-use borrow.Author.Tests.{lt-ltb, le-ltb}
+use borrow.Author.Tests.{ltb-false, lt-ltb, le-ltb}
 use lib.Dec.{ltb}
 use lib.ListN.{length, getD}
 use Rattle.rules.specs.Columns.{Table}
+use Rattle.rules.specs.Tests.{pick}
 use Rattle.rules.specs.Refusals.{accepted, refused, wrongNodeCount, wrongRoot, wrongColumns, wrongEndsAt, wrongOrderAt, judgeLinks}
 use Rattle.rules.specs.Refusals.{judgeEach}
 use Rattle.rules.proofs.Search.{Seen, seen-none, seen-more, seen-here, one-seen, none-seen}
@@ -61,6 +63,47 @@ module _ {t : Table} {fall previous i : ℕ} (p : Passed t fall previous i) (end
 
   pub nothing-decides : length (t .starts) ≤ fall → accepted ≡ judgeEach t
   nothing-decides l = rw (none-seen (p .ends-right) 4 end (omega arith), none-seen (p .first-fall) 5 end l)
+
+-- ---- the count of wrong links
+
+-- 1 for a wrong link and 0 for a right one
+fault-few : (wrong : Bool) {fault : ℕ} → fault ≡ pick wrong 1 0 → fault ≤ 1
+fault-few true e = omega arith
+fault-few false e = omega arith
+
+fault-none : (ends order : Bool) {fault : ℕ} → fault ≡ pick (ends || order) 1 0 → fault ≡ 0 → (ends ≡ false) × (order ≡ false)
+fault-none true order e none = absurd (omega arith)
+fault-none false true e none = absurd (omega arith)
+fault-none false false e none = (refl, refl)
+
+-- No more links are counted as wrong than stand before i. Where none is, those before i are passed without a fall.
+pub record Counted (t : Table) (count previous i : ℕ) : Type 0 where
+  pub within : i ≤ length (t .starts)
+  pub few : count ≤ i
+  pub none-wrong : count ≡ 0 → Passed t (length (t .starts)) previous i
+
+pub counted-none : (t : Table) → Counted t 0 0 0
+counted-none t = record { within = omega arith; few = omega arith; none-wrong = λ none. passed-none t }
+
+module _ {t : Table} {count previous i : ℕ} (p : Counted t count previous i) where
+  pub counted-more : i < length (t .starts)
+      → {fault : ℕ} → fault ≡ pick (wrongEndsAt t i || ltb (getD (t .starts) i 0) previous) 1 0
+      → Counted t (count + fault) (getD (t .starts) i 0) (i + 1)
+  counted-more l e =
+      let ends = wrongEndsAt t i in
+      let order = ltb (getD (t .starts) i 0) previous in
+      let few-more = fault-few (ends || order) e in
+      record {
+        within = omega arith;
+        few = omega arith;
+        none-wrong = λ none.
+            let right = fault-none ends order e (omega arith) in
+            let passed = p .none-wrong (omega arith) in
+            passed-more passed l (right .0) (falls-not-here passed l (inl (ltb-false _ _ (right .1))));
+      }
+
+  pub none-counted : length (t .starts) ≤ i → count ≡ 0 → accepted ≡ judgeEach t
+  none-counted end none = nothing-decides (p .none-wrong none) end (omega arith)
 
 -- ---- the whole table
 
