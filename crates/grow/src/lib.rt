@@ -1,5 +1,6 @@
 // The arrays of a whole tree: grown from the root, or regrown from what still stands of an old tree after costs have
 // changed. Both are seeds of one loop that settles distances, and both hang the nodes by one choice of parents.
+// The loop leaves guesses in `first`; after a change the old first links are the guesses of the nodes that don't move.
 ghost use Rattle.rules.specs.Columns.{Proper, table, arrays, Whole};
 ghost use Rattle.grow.specs.Grown.{Grown, Old, Regrown};
 
@@ -23,6 +24,7 @@ pub fn grow(
 {
     *dist = [UNREACHED; 256];
     *parent = [NO_LINK; 256];
+    *first = [NO_LINK; 256];
     let at = settle::first_links(starts);
     let mut keys = [queue::EMPTY; 256];
     let mut mins = [queue::EMPTY; 16];
@@ -37,6 +39,7 @@ pub fn grow(
         dist,
         &mut keys,
         &mut mins,
+        first,
     );
     hang::hang(nodes, root, starts, ends, costs, dist, parent, first);
 }
@@ -70,7 +73,17 @@ pub fn regrow(
         &mut keys,
         &mut mins,
     );
-    settle::offer_all(nodes, root, starts, ends, costs, dist, &mut keys, &mut mins);
+    settle::offer_all(
+        nodes,
+        root,
+        starts,
+        ends,
+        costs,
+        dist,
+        &mut keys,
+        &mut mins,
+        first,
+    );
     settle::settle(
         nodes,
         root,
@@ -81,6 +94,7 @@ pub fn regrow(
         dist,
         &mut keys,
         &mut mins,
+        first,
     );
     hang::hang(nodes, root, starts, ends, costs, dist, parent, first);
 }

@@ -1,15 +1,17 @@
--- First links: going up from a node to where its first link is known, and writing it on the way. Assumes nothing.
+-- First links: asking whether they are right already, going up from a node to where its first link is known, and writing
+-- it on the way. Assumes nothing.
 use mathlib.Core.Path.{_≡_, refl, sym, ap, _∙_}
 use mathlib.Core.Logic.{_≢_}
 use mathlib.Core.List.{List}
 use Prim.Native.Nat.{ℕ, _+_, _<_}
 use native.Mathlib.Omega.{arith}
 use native.Mathlib.Nat.{not-suc-le-zero}
-use native.Mathlib.Decide.{decLt}
+use native.Mathlib.Decide.{ℕ-discrete, decLt}
 use borrow.Author.Count.{below-more}
 use lib.ListN.{length, getD, set, replicate, length-set, length-replicate, getD-replicate, List·getD-eq-default}
 use Rattle.rules.specs.Columns.{mostNodes, noLink, unreached}
-use Rattle.hang.specs.Passes.{Has, above, Rising, FirstOf, near, far, Known, Spread, Firsts}
+use Rattle.rules.proofs.Logic.{by-size}
+use Rattle.hang.specs.Passes.{Has, above, Rising, Placed, FirstBy, Standing, FirstOf, near, far, Known, Spread, Firsts}
 use Rattle.hang.proofs.Parents.{within, set-each}
 
 -- ---- reading an array of links
@@ -77,6 +79,82 @@ module _ {root : ℕ} {starts dist parent : List ℕ} (s : Rising root starts di
 
     pub up-within : up ≢ root → up < mostNodes
     up-within n = hangs-within (up-hangs n)
+
+-- ---- first links that are right already
+
+module _ {root : ℕ} {starts first : List ℕ} where
+  pub by-above : {link up : ℕ} → up ≡ getD starts link 0 → up ≢ root → up < mostNodes → length first ≡ mostNodes → link ≢ noLink
+      → FirstBy root starts first link (getD first up 0)
+  by-above {link} {up} e n l long m =
+      record {
+        bare = λ q. absurd (m q);
+        near = λ h q. absurd (n (e ∙ q));
+        far = λ h q. read-link first long l ∙ ap (λ (u : ℕ). getD first u noLink) e;
+      }
+
+  by-one : {link f g : ℕ} → FirstBy root starts first link f → FirstBy root starts first link g → f ≡ g
+  by-one {link} {f} {g} a b = at (ℕ-discrete link noLink) (ℕ-discrete (getD starts link 0) root)
+    where
+      at : Dec (link ≡ noLink) → Dec (getD starts link 0 ≡ root) → f ≡ g
+      at (yes e) d = a .bare e ∙ sym (b .bare e)
+      at (no n) (yes e) = a .near n e ∙ sym (b .near n e)
+      at (no n) (no m) = a .far n m ∙ sym (b .far n m)
+
+  by-read : (parent : List ℕ) {v f : ℕ} → length parent ≡ mostNodes → v < mostNodes → FirstBy root starts first (getD parent v 0) f
+      → FirstBy root starts first (getD parent v noLink) f
+  by-read parent long l by = rw (← read-link parent long l) by
+
+module _ {root : ℕ} {starts parent first : List ℕ} where
+  pub standing-none : Standing root starts parent 0 first
+  standing-none = record { each = λ v l. absurd (not-suc-le-zero l) }
+
+  module _ {v f : ℕ} (parent-long : length parent ≡ mostNodes) (first-long : length first ≡ mostNodes) (l : v < mostNodes)
+      (by : FirstBy root starts first (getD parent v 0) f) where
+    pub standing-more : Standing root starts parent v first → getD first v 0 ≡ f → Standing root starts parent (v + 1) first
+    standing-more s e =
+        let here : FirstBy root starts first (getD parent v noLink) (getD first v noLink) = rw (← read-link first first-long l, e) (by-read parent parent-long l by) in
+        record { each = below-more (λ u. FirstBy root starts first (getD parent u noLink) (getD first u noLink)) v (s .each) here }
+
+    pub standing-not : getD first v 0 ≢ f → ¬ (Standing root starts parent mostNodes first)
+    standing-not n s = n (read-link first first-long l ∙ by-one (s .each v l) (by-read parent parent-long l by))
+
+module _ {root : ℕ} {starts dist parent : List ℕ} (r : Rising root starts dist parent) where
+  pub placed : {v : ℕ} → v < mostNodes → Placed root starts (getD parent v 0)
+  placed {v} l = record { is-link = λ n. link-within r (has n); start-within = λ n m. up-within r (has n) refl m }
+    where
+      has : getD parent v 0 ≢ noLink → Has parent v
+      has n = has-read (r .long) l n
+
+  module _ {first : List ℕ} (s : Standing root starts parent mostNodes first) where
+    -- a first link is right, since that of the nearer node above is
+    standing-right : (v : ℕ) → Has parent v → FirstOf root starts parent v (getD first v noLink)
+    standing-right = by-size (λ v. getD dist v unreached) (λ v. Has parent v → FirstOf root starts parent v (getD first v noLink)) step
+      where
+        step : (v : ℕ) → ((u : ℕ) → getD dist u unreached < getD dist v unreached → Has parent u → FirstOf root starts parent u (getD first u noLink))
+            → Has parent v → FirstOf root starts parent v (getD first v noLink)
+        step v before h = at (ℕ-discrete (above starts parent v) root)
+          where
+            at : Dec (above starts parent v ≡ root) → FirstOf root starts parent v (getD first v noLink)
+            at (yes e) = rw (s .each v (hangs-within r h) .near (h .link) e) (near h e)
+            at (no n) =
+                rw (s .each v (hangs-within r h) .far (h .link) n) (far h n (before (above starts parent v) (r .nearer v h) (r .goes-on v h n)))
+
+    -- a node that has a first link has a parent link
+    standing-hangs : length first ≡ mostNodes → {v : ℕ} → Has first v → Has parent v
+    standing-hangs long {v} h = record { link = λ e. h .link (at e (decLt v mostNodes)) }
+      where
+        at : getD parent v noLink ≡ noLink → Dec (v < mostNodes) → getD first v noLink ≡ noLink
+        at e (yes l) = s .each v l .bare e
+        at e (no l) = List·getD-eq-default first noLink {n = v} (omega (arith, long))
+
+    pub standing-firsts : {n : ℕ} → length first ≡ mostNodes → Firsts root starts parent n first
+    standing-firsts long =
+        record {
+          known = record { long = long; right = λ v h. standing-right v (standing-hangs long h) };
+          each = λ v l h. record { link = first-is-link (standing-right v h) };
+        }
+
+-- ---- climbing
 
 module _ (root : ℕ) (starts parent : List ℕ) where
   -- v hangs above node or is it: its first link is that of node

@@ -1,7 +1,7 @@
 -- The two passes that choose parents. Assumes nothing.
 use mathlib.Core.Path.{_≡_, refl, sym, _∙_}
 use mathlib.Core.Logic.{_≢_}
-use mathlib.Core.Bool.{false}
+use mathlib.Core.Bool.{true, false}
 use mathlib.Core.List.{List, [], _∷_}
 use Prim.Native.Nat.{ℕ, zero, suc, _+_, _≤_, _<_}
 use native.Mathlib.Omega.{arith}
@@ -17,6 +17,9 @@ use Rattle.hang.specs.Passes.{Tells, Given, Exact, Tightly, Kept, drops,
 
 pub tells-no : {fact : Type 0} → ¬ fact → Tells fact false
 tells-no f = record { holds = λ e. absurd (true-false (sym e)); fails = λ e. f }
+
+pub tells-yes : {fact : Type 0} → fact → Tells fact true
+tells-yes a = record { holds = λ e. a; fails = λ e. absurd (true-false e) }
 
 -- ---- arrays
 

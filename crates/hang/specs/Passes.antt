@@ -87,6 +87,17 @@ pub record Rising (root : ℕ) (starts dist parent : List ℕ) : Type 0 where
   pub goes-on : (v : ℕ) → Has parent v → above starts parent v ≢ root → Has parent (above starts parent v)
   pub nearer : (v : ℕ) → Has parent v → getD dist (above starts parent v) unreached < getD dist v unreached
 
+-- a link's number is that of none, or of a link that starts at the root or at a place of the arrays
+pub record Placed (root : ℕ) (starts : List ℕ) (link : ℕ) : Type 0 where
+  pub is-link : link ≢ noLink → link < length starts
+  pub start-within : link ≢ noLink → getD starts link 0 ≢ root → getD starts link 0 < mostNodes
+
+-- f is a node's first link by its parent link and by the first links of the nodes above it
+pub record FirstBy (root : ℕ) (starts first : List ℕ) (link f : ℕ) : Type 0 where
+  pub bare : link ≡ noLink → f ≡ noLink
+  pub near : link ≢ noLink → getD starts link 0 ≡ root → f ≡ link
+  pub far : link ≢ noLink → getD starts link 0 ≢ root → f ≡ getD first (getD starts link 0) noLink
+
 -- FirstOf v f: going up by parent links from v, link f is the last, and starts at the root
 pub data FirstOf (root : ℕ) (starts parent : List ℕ) : ℕ → ℕ → Type 0 where
   near : {v : ℕ} → Has parent v → above starts parent v ≡ root → FirstOf root starts parent v (getD parent v noLink)
@@ -94,6 +105,10 @@ pub data FirstOf (root : ℕ) (starts parent : List ℕ) : ℕ → ℕ → Type 
       → FirstOf root starts parent v f
 
 module _ (root : ℕ) (starts parent : List ℕ) where
+  -- the first link of each of the first n nodes is right by its parent link and by those above it
+  pub record Standing (n : ℕ) (first : List ℕ) : Type 0 where
+    pub each : (v : ℕ) → v < n → FirstBy root starts first (getD parent v noLink) (getD first v noLink)
+
   -- each first link that is known is right
   pub record Known (first : List ℕ) : Type 0 where
     pub long : length first ≡ mostNodes

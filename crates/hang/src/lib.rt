@@ -5,7 +5,7 @@ ghost use Prim.Native.Nat.{_≤_, _<_};
 ghost use lib.ListN.{length, getD, replicate};
 ghost use Rattle.rules.specs.Columns.{mostNodes, noLink, unreached, table};
 ghost use Rattle.hang.specs.Ready.{Ready, Hanged};
-ghost use Rattle.hang.specs.Passes.{Tells, Given, Exact, Tightly, Kept, AllKept, Aside, AllFound, Filled, AllFilled, Has, Rising, FirstOf, Known, Spread, Firsts};
+ghost use Rattle.hang.specs.Passes.{Tells, Given, Exact, Tightly, Kept, AllKept, Aside, AllFound, Filled, AllFilled, Has, Rising, Placed, FirstBy, Standing, FirstOf, Known, Spread, Firsts};
 
 const NODES: usize = 256;
 
@@ -146,13 +146,6 @@ fn take_smallest(
     }
 }
 
-// No first link is known.
-fn forget(first: &mut [u16; 256])
-    ensures { λ _. ⌜ now (first .exit) ≡ replicate mostNodes noLink ⌝ }
-{
-    *first = [NO_LINK; 256];
-}
-
 // The node that a link starts at.
 fn start_of(starts: &[u16], link: u16) -> usize
     requires { ⌜ link < length (now starts) ⌝ }
@@ -160,6 +153,48 @@ fn start_of(starts: &[u16], link: u16) -> usize
 {
     let k = link as usize;
     starts[k] as usize
+}
+
+// What a node's first link is by its parent link: none by none, that link where it starts at the root, else the first
+// link of the node where it starts.
+fn first_by(root: usize, starts: &[u16], first: &[u16; 256], link: u16) -> u16
+    requires { ⌜ Placed root (now starts) link × (length (now first) ≡ mostNodes) ⌝ }
+    ensures { λ r. ⌜ FirstBy root (now (starts .entry)) (now (first .entry)) link r ⌝ }
+{
+    if link == NO_LINK {
+        return NO_LINK;
+    }
+    let up = start_of(starts, link);
+    if up == root { link } else { first[up] }
+}
+
+// Whether the first links that came in, which may be any numbers, are right. Each is compared with that of the node
+// above alone: where none differs, all are right, since every way up ends at the root. The first that differs ends it.
+fn firsts_stand(
+    root: usize,
+    starts: &[u16],
+    dist: &[u32; 256],
+    parent: &[u16; 256],
+    first: &[u16; 256],
+) -> bool
+    requires { ⌜ Rising root (now starts) (now dist) (now parent) × (length (now first) ≡ mostNodes) ⌝ }
+    ensures { λ r. ⌜ Tells (Standing root (now (starts .entry)) (now (parent .entry)) mostNodes (now (first .entry))) r ⌝ }
+{
+    let mut v: usize = 0;
+    while v < NODES {
+        if first[v] != first_by(root, starts, first, parent[v]) {
+            return false;
+        }
+        v += 1;
+    }
+    true
+}
+
+// No first link is known.
+fn forget(first: &mut [u16; 256])
+    ensures { λ _. ⌜ now (first .exit) ≡ replicate mostNodes noLink ⌝ }
+{
+    *first = [NO_LINK; 256];
 }
 
 // The first link of a node, found by going up to the root or to a node whose first link is known. Each step leads to
@@ -242,6 +277,26 @@ fn first_links(
     }
 }
 
+// The first link of every node that has a parent: left as they came in where all are right, as after most batches, and
+// else found anew.
+fn renew_firsts(
+    nodes: usize,
+    root: usize,
+    starts: &[u16],
+    dist: &[u32; 256],
+    parent: &[u16; 256],
+    first: &mut [u16; 256],
+)
+    requires { ⌜ Rising root (now starts) (now dist) (now parent) × (nodes ≤ mostNodes) × (length (now first) ≡ mostNodes) ⌝ }
+    ensures { λ _. ⌜ Firsts root (now (starts .entry)) (now (parent .entry)) nodes (now (first .exit)) ⌝ }
+{
+    if firsts_stand(root, starts, dist, parent, first) {
+        return;
+    }
+    forget(first);
+    first_links(nodes, root, starts, dist, parent, first);
+}
+
 // Parents and first links for distances that are least sums. `parent` comes in with each node's old link, or with any
 // number that is no link, as 65,535.
 pub fn hang(
@@ -259,6 +314,5 @@ pub fn hang(
 {
     keep_tight(starts, ends, costs, dist, parent);
     take_smallest(starts, ends, costs, dist, parent);
-    forget(first);
-    first_links(nodes, root, starts, dist, parent, first);
+    renew_firsts(nodes, root, starts, dist, parent, first);
 }

@@ -1,12 +1,13 @@
 // The loop that finds the least sums of costs, whoever starts it: take the waiting node of least distance, and offer
-// its distance plus the cost over each link that leaves it; a node that takes an offer waits.
+// its distance plus the cost over each link that leaves it; a node that takes an offer waits. With an offer goes a guess
+// at the first link of its way.
 ghost use mathlib.Core.Path.{_≡_};
 ghost use mathlib.Core.Logic.{_≢_};
 ghost use mathlib.Core.List.{List};
 ghost use Prim.Native.Nat.{ℕ, _≤_, _<_};
-ghost use lib.ListN.{getD, replicate};
+ghost use lib.ListN.{length, getD, replicate};
 ghost use lib.Dec.{ltb};
-ghost use Rattle.rules.specs.Columns.{Proper, table, unreached};
+ghost use Rattle.rules.specs.Columns.{Proper, table, mostNodes, unreached};
 ghost use Rattle.queue.specs.Queue.{empty};
 ghost use Rattle.settle.specs.Afoot.{distAt, Lined, Begun, Partly, Afoot, Settled, Offered, weight, FirstOf, Firsts, Leaving};
 
@@ -33,22 +34,32 @@ fn usable(cost: u32) -> bool
     0 < cost
 }
 
-// The sum is offered to a link's end. Whether the link is usable is asked last.
+// A guess at the first link of a way that goes on over `link` from node u: at the root the link itself, else u's own
+// guess. Nothing is promised of guesses: whoever hangs the nodes asks in one pass whether they are right. They are, but
+// where two ways have one sum and the tree takes the other.
+fn guess_over(root: usize, u: usize, link: u16, own: u16) -> u16 {
+    if u == root { link } else { own }
+}
+
+// The sum is offered to a link's end, and the guess with it. Whether the link is usable is asked last.
 fn offer(
     dist: &mut [u32; 256],
     keys: &mut [u32; 256],
     mins: &mut [u32; 16],
+    guesses: &mut [u16; 256],
     end: u16,
     sum: u32,
     cost: u32,
+    guess: u16,
 )
-    requires { ⌜ Lined (now dist) (now keys) (now mins) × (end < 256) ⌝ }
-    ensures { λ _. ⌜ Lined (now (dist .exit)) (now (keys .exit)) (now (mins .exit)) × Offered (now (dist .entry)) (now (keys .entry)) end sum cost (now (dist .exit)) (now (keys .exit)) ⌝ }
+    requires { ⌜ Lined (now dist) (now keys) (now mins) × (end < 256) × (length (now guesses) ≡ mostNodes) ⌝ }
+    ensures { λ _. ⌜ Lined (now (dist .exit)) (now (keys .exit)) (now (mins .exit)) × Offered (now (dist .entry)) (now (keys .entry)) end sum cost (now (dist .exit)) (now (keys .exit)) × (length (now (guesses .exit)) ≡ mostNodes) ⌝ }
 {
     let node = end as usize;
     if sum < dist[node] {
         if usable(cost) {
             dist[node] = sum;
+            guesses[node] = guess;
             queue::put(keys, mins, node, sum * 256 + end as u32);
         }
     }
@@ -66,18 +77,21 @@ fn offer_from(
     dist: &mut [u32; 256],
     keys: &mut [u32; 256],
     mins: &mut [u32; 16],
+    guesses: &mut [u16; 256],
 )
-    requires { ⌜ Proper (table nodes root (now starts) (now ends) (now costs)) × Partly (table nodes root (now starts) (now ends) (now costs)) (λ k. getD (now starts) k 0 ≢ u) (now dist) (now keys) (now mins) × FirstOf (now starts) u first × (distAt (now dist) u < unreached) ⌝ }
-    ensures { λ _. ⌜ Afoot (table nodes root (now (starts .entry)) (now (ends .entry)) (now (costs .entry))) (now (dist .exit)) (now (keys .exit)) (now (mins .exit)) × (weight (now (dist .exit)) (now (keys .exit)) ≤ weight (now (dist .entry)) (now (keys .entry))) ⌝ }
+    requires { ⌜ Proper (table nodes root (now starts) (now ends) (now costs)) × Partly (table nodes root (now starts) (now ends) (now costs)) (λ k. getD (now starts) k 0 ≢ u) (now dist) (now keys) (now mins) × FirstOf (now starts) u first × (distAt (now dist) u < unreached) × (length (now guesses) ≡ mostNodes) ⌝ }
+    ensures { λ _. ⌜ Afoot (table nodes root (now (starts .entry)) (now (ends .entry)) (now (costs .entry))) (now (dist .exit)) (now (keys .exit)) (now (mins .exit)) × (weight (now (dist .exit)) (now (keys .exit)) ≤ weight (now (dist .entry)) (now (keys .entry))) × (length (now (guesses .exit)) ≡ mostNodes) ⌝ }
 {
     let near = dist[u];
+    let own = guesses[u];
     let mut k = first as usize;
     while k < starts.len() {
         if starts[k] as usize != u {
             return;
         }
         let cost = costs[k] as u32;
-        offer(dist, keys, mins, ends[k], near + cost, cost);
+        let guess = guess_over(root, u, k as u16, own);
+        offer(dist, keys, mins, guesses, ends[k], near + cost, cost, guess);
         k += 1;
     }
 }
@@ -93,15 +107,28 @@ pub fn settle(
     dist: &mut [u32; 256],
     keys: &mut [u32; 256],
     mins: &mut [u32; 16],
+    guesses: &mut [u16; 256],
 )
-    requires { ⌜ Proper (table nodes root (now starts) (now ends) (now costs)) × Firsts (now starts) (now at) × Afoot (table nodes root (now starts) (now ends) (now costs)) (now dist) (now keys) (now mins) ⌝ }
-    ensures { λ _. ⌜ Settled (table nodes root (now (starts .entry)) (now (ends .entry)) (now (costs .entry))) (now (dist .exit)) (now (keys .exit)) (now (mins .exit)) ⌝ }
+    requires { ⌜ Proper (table nodes root (now starts) (now ends) (now costs)) × Firsts (now starts) (now at) × Afoot (table nodes root (now starts) (now ends) (now costs)) (now dist) (now keys) (now mins) × (length (now guesses) ≡ mostNodes) ⌝ }
+    ensures { λ _. ⌜ Settled (table nodes root (now (starts .entry)) (now (ends .entry)) (now (costs .entry))) (now (dist .exit)) (now (keys .exit)) (now (mins .exit)) × (length (now (guesses .exit)) ≡ mostNodes) ⌝ }
 {
     let mut key = queue::least(mins);
     while key != queue::EMPTY {
         let u = (key % 256) as usize;
         queue::take(keys, mins, u);
-        offer_from(nodes, root, starts, ends, costs, u, at[u], dist, keys, mins);
+        offer_from(
+            nodes,
+            root,
+            starts,
+            ends,
+            costs,
+            u,
+            at[u],
+            dist,
+            keys,
+            mins,
+            guesses,
+        );
         key = queue::least(mins);
     }
 }
@@ -116,16 +143,18 @@ pub fn offer_all(
     dist: &mut [u32; 256],
     keys: &mut [u32; 256],
     mins: &mut [u32; 16],
+    guesses: &mut [u16; 256],
 )
-    requires { ⌜ Proper (table nodes root (now starts) (now ends) (now costs)) × Begun (table nodes root (now starts) (now ends) (now costs)) (now dist) (now keys) (now mins) ⌝ }
-    ensures { λ _. ⌜ Afoot (table nodes root (now (starts .entry)) (now (ends .entry)) (now (costs .entry))) (now (dist .exit)) (now (keys .exit)) (now (mins .exit)) ⌝ }
+    requires { ⌜ Proper (table nodes root (now starts) (now ends) (now costs)) × Begun (table nodes root (now starts) (now ends) (now costs)) (now dist) (now keys) (now mins) × (length (now guesses) ≡ mostNodes) ⌝ }
+    ensures { λ _. ⌜ Afoot (table nodes root (now (starts .entry)) (now (ends .entry)) (now (costs .entry))) (now (dist .exit)) (now (keys .exit)) (now (mins .exit)) × (length (now (guesses .exit)) ≡ mostNodes) ⌝ }
 {
     let mut k: usize = 0;
     while k < starts.len() {
         let start = starts[k] as usize;
         let cost = costs[k] as u32;
         let sum = dist[start] + cost;
-        offer(dist, keys, mins, ends[k], sum, cost);
+        let guess = guess_over(root, start, k as u16, guesses[start]);
+        offer(dist, keys, mins, guesses, ends[k], sum, cost, guess);
         k += 1;
     }
 }

@@ -9,26 +9,28 @@ use Rattle.grow.proofs.grow.Statement.{statement}
 use Rattle.grow.proofs.grow.Tie as tie
 
 first-links-requires : tie.Need-first-links-requires
-first-links-requires c κs = leaving (c .before .before .before .before .before .pre .0)
+first-links-requires c κs = leaving (c .before .before .before .before .before .before .pre .0)
 
 seed-requires : tie.Need-seed-requires
 seed-requires c κs = search needs
 
 settle-requires : tie.Need-settle-requires
 settle-requires c κs =
-    let entry = c .before .before .before .before .before .before .before .before .before .before .before .before .before .before in (
+    let entry = c .before .before .before .before .before .before .before .before .before .before .before .before .before .before .before .before in (
       entry .pre .0,
-      c .before .before .before .before .before .before .before .before .first-links .ensures,
-      c .before .before .before .before .seed .ensures (entry .args .nodes) (entry .args .starts .now) (entry .args .ends .now) (entry .args .costs .now),
+      c .before .before .before .before .before .before .before .before .before .first-links .ensures,
+      c .before .before .before .before .before .seed .ensures (entry .args .nodes) (entry .args .starts .now) (entry .args .ends .now) (entry .args .costs .now),
+      length-replicate 256 noLink,
     )
 
 hang-requires : tie.Need-hang-requires
 hang-requires c κs =
-    let entry = c .before .before .before .before .before .before .before .before .before .before .before .before .before .before .before .before .before .before in
-    hangable (entry .pre .0) (c .before .before .before .settle .ensures) (length-replicate 256 noLink) (entry .pre .1 .first)
+    let entry = c .before .before .before .before .before .before .before .before .before .before .before .before .before .before .before .before .before .before .before .before in
+    let settled = c .before .before .before .settle .ensures in
+    hangable (entry .pre .0) (settled .0) (length-replicate 256 noLink) (settled .1)
 
 returns : tie.Need-returns
-returns c = grown (c .before .before .before .before .before .before .before .before .before .before .before .before .before .before .before .before .before .before .before .pre .0) (c .before .before .before .before .settle .ensures) (c .hang .ensures)
+returns c = grown (c .before .before .before .before .before .before .before .before .before .before .before .before .before .before .before .before .before .before .before .before .before .pre .0) (c .before .before .before .before .settle .ensures .0) (c .hang .ensures)
 
 pub grow-spec : {M : Type 1} → statement M
 grow-spec = tie.close (tie.spec first-links-requires seed-requires settle-requires hang-requires returns)

@@ -14,18 +14,23 @@ lift-requires c κs =
     (pre .0, c .before .before .before .before .before .first-links .ensures, rooted (pre .1), ready (pre .1))
 
 offer-all-requires : tie.Need-offer-all-requires
-offer-all-requires c κs = (c .before .before .before .before .before .before .before .before .before .before .before .before .before .pre .0, c .before .before .before .lift .ensures .begun)
+offer-all-requires c κs =
+    let pre = c .before .before .before .before .before .before .before .before .before .before .before .before .before .before .pre in
+    (pre .0, c .before .before .before .before .lift .ensures .begun, pre .1 .whole .first)
 
 settle-requires : tie.Need-settle-requires
-settle-requires c κs = (c .before .before .before .before .before .before .before .before .before .before .before .before .before .before .before .before .before .before .pre .0, c .before .before .before .before .before .before .before .before .before .before .before .before .before .before .first-links .ensures, c .before .before .before .before .offer-all .ensures)
+settle-requires c κs =
+    let offered = c .before .before .before .before .before .offer-all .ensures in
+    (c .before .before .before .before .before .before .before .before .before .before .before .before .before .before .before .before .before .before .before .before .pre .0, c .before .before .before .before .before .before .before .before .before .before .before .before .before .before .before .before .first-links .ensures, offered .0, offered .1)
 
 hang-requires : tie.Need-hang-requires
 hang-requires c κs =
-    let pre = c .before .before .before .before .before .before .before .before .before .before .before .before .before .before .before .before .before .before .before .before .before .before .pre in
-    hangable (pre .0) (c .before .before .before .settle .ensures) (pre .1 .whole .parent) (pre .1 .whole .first)
+    let pre = c .before .before .before .before .before .before .before .before .before .before .before .before .before .before .before .before .before .before .before .before .before .before .before .before .pre in
+    let settled = c .before .before .before .settle .ensures in
+    hangable (pre .0) (settled .0) (pre .1 .whole .parent) (settled .1)
 
 returns : tie.Need-returns
-returns c = regrown (c .before .before .before .before .settle .ensures) (c .hang .ensures)
+returns c = regrown (c .before .before .before .before .settle .ensures .0) (c .hang .ensures)
 
 pub regrow-spec : {M : Type 1} → statement M
 regrow-spec =

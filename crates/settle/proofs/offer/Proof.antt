@@ -2,6 +2,7 @@
 -- nothing. Assumes nothing.
 use mathlib.Core.Path.{refl, sym, _∙_}
 use native.Mathlib.Omega.{arith}
+use lib.ListN.{length-set}
 use borrow.Author.Needs.{needs}
 use borrow.Author.Tests.{ltb-true, ltb-false}
 use Rattle.settle.specs.Afoot.{left, taken}
@@ -24,6 +25,12 @@ mul-dist c = search needs
 element-write-dist : tie.Need-element-write-dist
 element-write-dist c = search needs
 
+mul-guesses : tie.Need-mul-guesses
+mul-guesses c = search needs
+
+element-write-guesses : tie.Need-element-write-guesses
+element-write-guesses c = search needs
+
 mul-put : tie.Need-mul-put
 mul-put c =
     let start = c .before .before .before .before .before .before in
@@ -45,18 +52,19 @@ returns c =
     let less = c .before .before .before .before .before .if1 .taken in (
       lined-taken (start .pre .0) (start .pre .1) less (c .put .ensures),
       taken (ltb-true _ _ (sym (c .before .before .before .before .usable .ensures) ∙ c .before .before .before .if2 .taken)) (omega (arith, entry (start .pre .0) (start .pre .1))) refl (c .put .ensures .is-set),
+      rw length-set (start .pre .2),
     )
 
 returns-2 : tie.Need-returns-2
 returns-2 c =
     let start = c .before .before .before .before in
     let none = ltb-false 0 (start .args .cost) (sym (c .before .usable .ensures) ∙ c .if2 .left) in
-    (start .pre .0, left (λ up. absurd (omega arith)) refl refl)
+    (start .pre .0, left (λ up. absurd (omega arith)) refl refl, start .pre .2)
 
 returns-3 : tie.Need-returns-3
 returns-3 c =
     let start = c .before .before in
-    (start .pre .0, left (λ up. omega (arith, entry (start .pre .0) (start .pre .1))) refl refl)
+    (start .pre .0, left (λ up. omega (arith, entry (start .pre .0) (start .pre .1))) refl refl, start .pre .2)
 
 pub offer-spec : {M : Type 1} → statement M
 offer-spec =
@@ -67,6 +75,8 @@ offer-spec =
     usable-requires
     mul-dist
     element-write-dist
+    mul-guesses
+    element-write-guesses
     mul-put
     add-put
     put-requires

@@ -1,9 +1,11 @@
--- `settle::settle` meets its contract. The invariant: every link is done but those of waiting nodes, and `key` is the
--- least; the measure is the weight. Assumes nothing.
+-- `settle::settle` meets its contract. The invariant: every link is done but those of waiting nodes, `key` is the
+-- least, and the guesses are whole; the measure is the weight. Assumes nothing.
+use mathlib.Core.Path.{_≡_}
 use Prim.Native.Nat.{_%_}
 use native.Mathlib.Omega.{arith}
+use lib.ListN.{length}
 use borrow.Author.Needs.{needs}
-use Rattle.rules.specs.Columns.{table}
+use Rattle.rules.specs.Columns.{table, mostNodes}
 use Rattle.rules.specs.Demands.{Narrow}
 use Rattle.queue.specs.Queue.{Least}
 use Rattle.settle.specs.Afoot.{Afoot, weight}
@@ -12,11 +14,11 @@ use Rattle.settle.proofs.settle.Statement.{statement}
 use Rattle.settle.proofs.settle.Tie as tie
 
 abbrev Inv-loop : tie.InvT-loop
-Inv-loop nodes root starts ends costs at dist₀ keys₀ mins₀ key₀ dist keys mins key =
-    Afoot (table nodes root starts ends costs) dist keys mins × Least mins 0 16 key
+Inv-loop nodes root starts ends costs at dist₀ keys₀ mins₀ guesses₀ key₀ dist keys mins guesses key =
+    Afoot (table nodes root starts ends costs) dist keys mins × Least mins 0 16 key × (length guesses ≡ mostNodes)
 
 abbrev μ-loop : tie.MeasureT-loop
-μ-loop nodes root starts ends costs at dist₀ keys₀ mins₀ key₀ dist keys mins key = weight dist keys
+μ-loop nodes root starts ends costs at dist₀ keys₀ mins₀ guesses₀ key₀ dist keys mins guesses key = weight dist keys
 
 -- the node of least key waits
 node : (c : tie.In-loop Inv-loop μ-loop) → Chosen (c .before .loop .dist) (c .before .loop .keys) (c .before .loop .key % 256)
@@ -26,7 +28,7 @@ least-requires : tie.Need-least-requires Inv-loop μ-loop
 least-requires c κs = search needs
 
 loop-holds : tie.Need-loop-holds Inv-loop μ-loop
-loop-holds c = (c .before .before .before .before .before .pre .2, c .least .ensures)
+loop-holds c = (c .before .before .before .before .before .pre .2, c .least .ensures, c .before .before .before .before .before .pre .3)
 
 cast-u : tie.Need-cast-u Inv-loop μ-loop
 cast-u c = search needs
@@ -42,25 +44,26 @@ element-copy-out-offer-from c = node (c .before .before .before) .is-node
 
 offer-from-requires : tie.Need-offer-from-requires Inv-loop μ-loop
 offer-from-requires c κs =
-    let start = c .before .before .before .before .before .before .before .before .before .before .before .before .before .before in
-    let chosen = node (c .before .before .before .before .before .before .before) in
-    (start .pre .0, partly-taken (c .before .before .before .before .before .before .before .before .loop .inv .0) chosen (c .before .before .before .before .take .ensures), start .pre .1 .each _ (chosen .is-node), chosen .near)
+    let start = c .before .before .before .before .before .before .before .before .before .before .before .before .before .before .before in
+    let loop = c .before .before .before .before .before .before .before .before .before .loop in
+    let chosen = node (c .before .before .before .before .before .before .before .before) in
+    (start .pre .0, partly-taken (loop .inv .0) chosen (c .before .before .before .before .before .take .ensures), start .pre .1 .each _ (chosen .is-node), chosen .near, loop .inv .2)
 
 least-requires-2 : tie.Need-least-requires-2 Inv-loop μ-loop
 least-requires-2 c κs = search needs
 
 loop-less : tie.Need-loop-less Inv-loop μ-loop
-loop-less c = omega (arith, c .before .before .offer-from .ensures .1, lighter (c .before .before .before .before .before .before .before .before .before .before .before .loop .inv .0) (node (c .before .before .before .before .before .before .before .before .before .before)) (c .before .before .before .before .before .before .before .take .ensures))
+loop-less c = omega (arith, c .before .before .offer-from .ensures .1, lighter (c .before .before .before .before .before .before .before .before .before .before .before .before .loop .inv .0) (node (c .before .before .before .before .before .before .before .before .before .before .before)) (c .before .before .before .before .before .before .before .before .take .ensures))
 
 loop-again : tie.Need-loop-again Inv-loop μ-loop
-loop-again c = (c .before .before .offer-from .ensures .0, c .least2 .ensures)
+loop-again c = (c .before .before .offer-from .ensures .0, c .least2 .ensures, c .before .before .offer-from .ensures .2)
 
 returns : tie.Need-returns Inv-loop μ-loop
 returns c =
     let start = c .before .before .before .before .before .before .before in
     let loop = c .before .loop in
     let narrow : Narrow (start .args .costs .now) = record { narrow = λ k. omega (arith, c .before .before .before .before .shared-slice-known3 .given k) } in
-    settled (start .pre .0) narrow (loop .inv .0) (loop .inv .1) (c .loop-test .left)
+    (settled (start .pre .0) narrow (loop .inv .0) (loop .inv .1) (c .loop-test .left), loop .inv .2)
 
 pub settle-spec : {M : Type 1} → statement M
 settle-spec =
