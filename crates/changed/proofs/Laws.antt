@@ -1,7 +1,7 @@
 -- One node more on the list of changed nodes. Assumes nothing.
 use mathlib.Core.Path.{_≡_, refl, sym, ap, _∙_, subst}
 use mathlib.Core.Bool.{Bool, true, false, _&&_, not}
-use mathlib.Core.List.{List, [], _∷_, _++_, append-assoc}
+use mathlib.Core.List.{List, [], _∷_, _++_, append-assoc, append-nil}
 use Prim.Native.Nat.{ℕ, zero, suc, _+_, _≤_, _<_}
 use native.Mathlib.Numerals.{add-one}
 use native.Mathlib.Omega.{arith}
@@ -29,10 +29,6 @@ differs-by {old} {new} a b v l =
       getD-any (old .first) v 0 noLink (omega (arith, a .first)),
       getD-any (new .first) v 0 noLink (omega (arith, b .first)),
     ) refl
-
-append-nil : (l : List ℕ) → l ++ [] ≡ l
-append-nil [] = refl
-append-nil (x ∷ l) = ap (λ (m : List ℕ). x ∷ m) (append-nil l)
 
 -- one entry more at the front
 written-more : (front list : List ℕ) (x : ℕ) → length front < length list → set (written front list) (length front) x ≡ written (front ++ (x ∷ [])) list

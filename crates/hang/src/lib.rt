@@ -298,7 +298,7 @@ fn renew_firsts(
 }
 
 // Parents and first links for distances that are least sums. `parent` comes in with each node's old link, or with any
-// number that is no link, as 65,535.
+// number that is no link, as 65,535; `first` with any numbers, at best with guesses.
 pub fn hang(
     nodes: usize,
     root: usize,

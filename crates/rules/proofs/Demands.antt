@@ -2,7 +2,7 @@
 use mathlib.Core.Path.{_≡_, refl, sym, ap, _∙_}
 use mathlib.Core.Logic.{_⊎_, inl, inr, _≢_}
 use mathlib.Core.Bool.{Bool, true, false, _&&_, not}
-use mathlib.Core.List.{List, [], _∷_, _++_}
+use mathlib.Core.List.{List, [], _∷_, _++_, append-nil}
 use Prim.Native.Nat.{ℕ, zero, suc, _+_, _*_, _≤_, _<_}
 use native.Mathlib.Omega.{arith}
 use native.Mathlib.Nat.{not-suc-le-zero, mul-le-mul-left}
@@ -122,10 +122,6 @@ module _ (old new : Rows) where
   one-more {n} {changed} false e h =
       rw (append-nil changed) (record { named = λ v l d. name v l d (ℕ-discrete v n); only = λ i l. let before = h .only i l in (omega (arith, before .0), before .1); rising = h .rising })
     where
-      append-nil : (l : List ℕ) → l ++ [] ≡ l
-      append-nil [] = refl
-      append-nil (x ∷ l) = ap (λ (m : List ℕ). x ∷ m) (append-nil l)
-
       name : (v : ℕ) → v < suc n → differs old new v ≡ true → Dec (v ≡ n) → (i : ℕ) × (i < length changed) × (getD changed i 0 ≡ v)
       name v l d (yes q) = absurd (true-false (sym d ∙ rw q e))
       name v l d (no q) = h .named v (omega arith) d
