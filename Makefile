@@ -1,12 +1,12 @@
 # What people type. `rt` is the toolchain's command.
-.PHONY: run test room compare bench bench-peers example c-example rust-example rust-test records records-test streams archive program clean
+.PHONY: run test room compare bench bench-peers example c-example rust-example rust-test records records-test streams cases archive program clean
 
 # The pier network through the program `routes`.
 run:
 	@./run
 
 # Everything: proves every crate from nothing, tries each must-fail edit, runs each program and compares what it prints;
-# then the example in C, the Rust crates' tests, the stored streams and the comparison.
+# then the examples in C and Rust, the Rust crates' tests, the stored streams and the comparison.
 test:
 	@./test
 
@@ -66,6 +66,11 @@ records-test:
 # Each stream of tests/streams through the program.
 streams: records program
 	@tests/streams.sh target/rust/release/records target/bin/routes
+
+# What the programs of cases must print, worked out again by other calculations.
+cases:
+	@python3 -B tests/judging.py | cmp - crates/judging/stdout
+	@python3 -B tests/changing.py | cmp - crates/changing/stdout
 
 clean:
 	rm -rf target
