@@ -1,7 +1,7 @@
 -- The two passes, one step further, and what the tests of a row decide. Assumes nothing.
 use mathlib.Core.Path.{_≡_, refl, _∙_}
 use mathlib.Core.Logic.{_≢_}
-use mathlib.Core.Bool.{Bool, true, false, _&&_, true≢false}
+use mathlib.Core.Bool.{Bool, true, false, _&&_, and-true, true≢false}
 use mathlib.Core.List.{List}
 use Prim.Native.Nat.{ℕ, _+_, _≤_, _<_}
 use native.Mathlib.Omega.{arith}
@@ -98,7 +98,7 @@ module _ (nodes root : ℕ) {ss es cs ds ps fs : List ℕ} (j : Judged ss es cs)
       let is-there = lt-ltb (getD ps v noLink) (length ss) (omega (arith, read-parent w has-row)) in
       rw is
       (rw (read-dist w from, read-first w from, read-dist w has-row, read-first w has-row, read-parent w has-row)
-      (rw (lt-ltb v nodes is-node, is-route, is-there)))
+      (rw (lt-ltb v nodes is-node, is-route, is-there, and-true)))
 
   -- the root's row is empty at distance 0
   pub row-root : {b : Bool} → b ≡ emptyAt 0 (getD ds v 0) (getD ps v 0) (getD fs v 0) → v ≡ root

@@ -49,7 +49,7 @@ module _ (nodes root : ℕ) {ss es cs ds ps fs : List ℕ} (j : Judged ss es cs)
   unfolding offends offersLess offers usable reached
   offends-is k l =
       rw (read-dist w (j .starts-have-rows k l), read-dist w (j .ends-have-rows k l))
-      (rw (lt-ltb k (length ss) l, eq-eqb (getD es k 0) (getD es k 0) refl, and-true))
+      (rw (lt-ltb k (length ss) l, eq-eqb (getD es k 0) (getD es k 0) refl) (simp and-true))
 
   less-at : {v : ℕ} (k : ℕ) → k < length ss → offends ss es cs ds k ≡ true → getD es k 0 ≡ v
       → Less (table nodes root ss es cs) (rows ds ps fs) v k

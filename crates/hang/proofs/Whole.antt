@@ -65,7 +65,7 @@ module _ {t : Table} {dist old first₀ : List ℕ} (a : Ready t dist old first�
   tight-by-rules : {v k : ℕ} → Tightly (t .starts) (t .ends) (t .costs) dist v k → Tight N r k v
   tight-by-rules b =
       record {
-        usable = record { is-link = b .is-link; costs = omega (arith, b .exact .usable) };
+        usable = record { is-link = b .is-link; costs = omega (arith, b .exact .usable); open-is = refl };
         ends-at = b .ends-at;
         from-reached = b .exact .reached;
         sum = b .exact .sum;

@@ -1,5 +1,5 @@
 -- What a node that goes to unreached leaves standing, and why what is left over has walks. Assumes nothing.
-use mathlib.Core.Path.{_≡_, _∙_}
+use mathlib.Core.Path.{_≡_, refl, _∙_}
 use mathlib.Core.Logic.{_≢_}
 use mathlib.Core.List.{List}
 use Prim.Native.Nat.{ℕ, _+_, _≤_, _<_}
@@ -114,7 +114,7 @@ module _ {t : Table} {parent dist keys mins : List ℕ} (h : AllStand t parent d
       at v before near (loose.carried c) =
           let k = parentAt parent v in
           let w = before (netOf t .start k) (omega (arith, c .offers .enough, c .offers .costs)) (c .offers .reached) in
-          let usable : Usable (netOf t) k = record { is-link = c .is-link; costs = c .offers .costs } in
+          let usable : Usable (netOf t) k = record { is-link = c .is-link; costs = c .offers .costs; open-is = refl } in
           let walk = rw (c .ends-at) at (along k usable (w .walk)) in
           record { sum = w .sum + netOf t .cost k; walk = walk; within = omega (arith, w .within, c .offers .enough) }
 

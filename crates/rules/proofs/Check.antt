@@ -9,16 +9,16 @@ use lib.Dec.{T, eqb, ltb, leb, eqb→eq, ltb→lt, leb→le, lt→ltb, le→leb,
 use Rattle.rules.specs.Net.{Net, Usable}
 use Rattle.rules.specs.Tree.{Rows, Reached, Tight, Offer, RootRow, Bare, Hung, Row, root, hung, bare}
 use Rattle.rules.specs.Tests.{pick, all, usable, reached, sumBy, tight, offers, rootRow, bareRow, firstBy, hungRow, breaks}
-use Rattle.rules.proofs.Logic.{and, and-l, and-r, or-cases, or-l, or-r, eq→eqb, neqb→ne, ne→neqb, all-at, all-is, T-true, T-false, true-false}
+use Rattle.rules.proofs.Logic.{and, and-l, and-r, or-cases, or-l, or-r, eq→eqb, neqb→ne, ne→neqb, all-at, all-is, T-true, T-false, true-T, true-false}
 
 module _ (N : Net) where
   pub usable-of : (k : ℕ) → T (usable N k) → Usable N k
   unfolding usable
-  usable-of k q = search (and-l, and-r, ltb→lt)
+  usable-of k q = search (and-l, and-r, ltb→lt, T-true)
 
   pub usable-is : (k : ℕ) → Usable N k → T (usable N k)
   unfolding usable
-  usable-is k u = search (and, lt→ltb)
+  usable-is k u = search (and, lt→ltb, true-T)
 
 module _ (N : Net) (r : Rows) where
   pub reached-of : (v : ℕ) → T (reached N r v) → Reached N r v

@@ -2,6 +2,7 @@
 -- and numbers of 01. Assumes nothing.
 use mathlib.Core.Path.{_≡_}
 use mathlib.Core.Logic.{_≢_}
+use mathlib.Core.Bool.{true}
 use mathlib.Core.List.{List, [], _∷_}
 use Prim.Native.Nat.{ℕ, _-_, _^_, _≤_, _<_}
 use lib.ListN.{length, getD, set, replicate}
@@ -43,7 +44,7 @@ pub record Table : Type 0 where
 abbrev pub table : ℕ → ℕ → List ℕ → List ℕ → List ℕ → Table
 table nodes root starts ends costs = record { nodes = nodes; root = root; starts = starts; ends = ends; costs = costs }
 
--- a link's number is its place, from 0; it is usable when its cost isn't 0
+-- a link's number is its place, from 0; every link is open, so it is usable when its cost isn't 0
 abbrev pub netOf : Table → Net
 netOf t = record {
   nodes = t .nodes;
@@ -52,6 +53,7 @@ netOf t = record {
   start = λ k. getD (t .starts) k 0;
   end = λ k. getD (t .ends) k 0;
   cost = λ k. getD (t .costs) k 0;
+  is-open = λ k. true;
   most = mostCost;
   ceiling = noCeiling;
   mark = unreached;

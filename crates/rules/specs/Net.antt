@@ -1,10 +1,12 @@
 -- A network with one root, its walks and its least sums. Nothing here looks at a column: Columns.antt makes a
 -- network of them. Assumes nothing.
+use mathlib.Core.Path.{_≡_}
+use mathlib.Core.Bool.{Bool, true}
 use Prim.Native.Nat.{ℕ, _+_, _*_, _≤_, _<_}
 
--- nodes 0 .. nodes - 1 and links 0 .. links - 1, each link with its start, its end and its cost, which is 0 where
--- the link isn't usable; the largest cost; the ceiling, which no route's sum reaches; the distance that marks an
--- unreached node; and the number for "no link"
+-- nodes 0 .. nodes - 1 and links 0 .. links - 1, each link with its start, its end, its cost and whether it is open;
+-- the largest cost; the ceiling, which no route's sum reaches; the distance that marks an unreached node; and the
+-- number for "no link"
 pub record Net : Type 0 where
   pub nodes : ℕ
   pub root : ℕ
@@ -12,6 +14,7 @@ pub record Net : Type 0 where
   pub start : ℕ → ℕ
   pub end : ℕ → ℕ
   pub cost : ℕ → ℕ
+  pub is-open : ℕ → Bool
   pub most : ℕ
   pub ceiling : ℕ
   pub mark : ℕ
@@ -26,9 +29,11 @@ pub record Legal (N : Net) : Type 0 where
   pub some-route : 0 < N .ceiling
   pub mark-is-far : 0 < N .mark
 
+-- a link that is up, and open
 pub record Usable (N : Net) (k : ℕ) : Type 0 where
   pub is-link : k < N .links
   pub costs : 0 < N .cost k
+  pub open-is : N .is-open k ≡ true
 
 -- Walk N v d: usable links lead from the root to v, and their costs sum up to d
 pub data Walk (N : Net) : ℕ → ℕ → Type 0 where

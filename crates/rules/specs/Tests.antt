@@ -25,7 +25,7 @@ firstBelow p (suc n) = orNext n (p n) (firstBelow p n)
 
 module _ (N : Net) where
   unfoldable pub usable : ℕ → Bool
-  usable k = ltb k (N .links) && ltb 0 (N .cost k)
+  usable k = ltb k (N .links) && ltb 0 (N .cost k) && N .is-open k
 
 module _ (N : Net) (r : Rows) where
   unfoldable pub reached : ℕ → Bool

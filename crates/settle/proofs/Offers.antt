@@ -143,7 +143,7 @@ module _ {t : Table} (proper : Proper t) {done : ℕ → Type 0} {dist keys mins
       by-link : Within (netOf t) (getD (t .ends) k 0) (near + getD (t .costs) k 0)
       by-link =
           let before = p .begun .walks (getD (t .starts) k 0) (omega (arith, p .begun .lined .most (getD (t .ends) k 0))) in
-          record { sum = before .sum + getD (t .costs) k 0; walk = along k (record { is-link = is-link; costs = up }) (before .walk); within = omega (arith, before .within) }
+          record { sum = before .sum + getD (t .costs) k 0; walk = along k (record { is-link = is-link; costs = up; open-is = refl }) (before .walk); within = omega (arith, before .within) }
 
       at : Dec (v ≡ getD (t .ends) k 0) → Within (netOf t) v (distAt dist' v)
       at (yes e) = rw (e, here) by-link
