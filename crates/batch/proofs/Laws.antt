@@ -1,24 +1,27 @@
 -- The rows of two columns, the pass that judges them, and the writing of their costs. Assumes nothing.
 use mathlib.Core.Path.{_≡_, refl, sym, ap, _∙_}
+use mathlib.Core.Logic.{_≢_}
 use mathlib.Core.Bool.{Bool, true, false, _||_}
 use mathlib.Core.List.{List, [], _∷_}
 use Prim.Native.Nat.{ℕ, zero, suc, _+_, _≤_, _<_}
 use native.Mathlib.Omega.{arith}
 use native.Mathlib.Nat.{not-suc-le-zero, le-of-suc-le-suc}
 use native.Mathlib.Numerals.{add-one}
-use native.Mathlib.Decide.{ℕ-discrete}
+use native.Mathlib.Decide.{ℕ-discrete, decLt}
 use lib.Dec.{eqb, ltb, leb}
 use lib.ListN.{length, getD, set, drop, replicate, length-set, length-replicate, getD-replicate, drop-of-length-le}
 use lib.Seq.{drop-cons, getD-set-same, getD-set-other}
 use borrow.Author.Count.{below-none, below-more}
-use borrow.Author.Tests.{lt-ltb, le-ltb, ltb-true, le-leb, lt-leb, eq-eqb, ne-eqb}
-use Rattle.rules.specs.Tests.{pick, orNext, firstBelow}
-use Rattle.rules.specs.Columns.{Table, applied, mostLinks, mostRows}
+use borrow.Author.Tests.{lt-ltb, le-ltb, le-leb, lt-leb, eq-eqb, ne-eqb}
+use Rattle.rules.specs.Tests.{pick, firstBelow}
+use Rattle.rules.specs.Columns.{Table, applied, mostRows}
 use Rattle.rules.specs.Refusals.{linkAt, namesNoLink, namesAgain, firstBadRow, judgeRows}
 use Rattle.rules.specs.declared.Change.{Change}
 use Rattle.rules.specs.declared.Answer.the-variants.{Accepted, TooManyRows, RowNamesNoLink, RowNamesLinkAgain}
 use Rattle.rules.proofs.Logic.{First, first-is, or-false}
 use Rattle.batch.specs.Rows.{rowsOfColumns, RowsJudged, BatchJudged}
+use Rattle.threads.specs.Threads.{Threaded, Earliest}
+use Rattle.threads.proofs.Laws.{threaded-none}
 
 -- ---- two columns
 
@@ -56,33 +59,6 @@ row-at (link ∷ links) (cost ∷ costs) (suc row) l =
       link = before .link;
     }
 
--- ---- a link that an earlier row names
-
--- one of the first i rows names the link
-unfoldable pub earlier : List Change → ℕ → ℕ → Bool
-unfolding linkAt firstBelow
-earlier batch link i = ltb (firstBelow (λ row. eqb (linkAt batch row) link) i) i
-
-one-more : (i f : ℕ) (here : Bool) → ltb (orNext i here f) (suc i) ≡ (ltb f i || here)
-one-more i f here = at (ltb f i) refl here
-  where
-    at : (b : Bool) → ltb f i ≡ b → (here : Bool) → ltb (pick b f (pick here i (suc i))) (suc i) ≡ (b || here)
-    at true e here = lt-ltb f (suc i) (omega (arith, ltb-true f i e))
-    at false e true = lt-ltb i (suc i) (omega arith)
-    at false e false = le-ltb (suc i) (suc i) (omega arith)
-
-earlier-more : (batch : List Change) (link i : ℕ) → earlier batch link (i + 1) ≡ (earlier batch link i || eqb (linkAt batch i) link)
-unfolding earlier firstBelow
-earlier-more batch link i = rw add-one (one-more i (firstBelow (λ row. eqb (linkAt batch row) link) i) (eqb (linkAt batch i) link))
-
-or-true : (b : Bool) → (b || true) ≡ true
-or-true true = refl
-or-true false = refl
-
-or-same : (b : Bool) → (b || false) ≡ b
-or-same true = refl
-or-same false = refl
-
 -- ---- the pass over the rows
 
 -- a row is bad in a table of so many links
@@ -90,23 +66,23 @@ unfoldable pub bad : ℕ → List Change → ℕ → Bool
 unfolding linkAt namesAgain
 bad links batch row = leb links (linkAt batch row) || namesAgain batch row
 
--- the first i rows are good, and the marks tell which links they name
-pub record Passed (links : ℕ) (batch : List Change) (named : List Bool) (i : ℕ) : Type 0 where
-  pub within : i ≤ length batch
-  pub good : (row : ℕ) → row < i → bad links batch row ≡ false
-  pub long : length named ≡ mostLinks
-  pub marks : (link : ℕ) → link < mostLinks → getD named link false ≡ earlier batch link i
+-- the first i rows are good, and threaded
+pub record Passed (links : ℕ) (changed newcosts ends before : List ℕ) (i : ℕ) : Type 0 where
+  pub within : i ≤ length (rowsOfColumns changed newcosts)
+  pub good : (row : ℕ) → row < i → bad links (rowsOfColumns changed newcosts) row ≡ false
+  pub threaded : Threaded changed ends before i
 
-pub passed-none : (links : ℕ) (batch : List Change) → Passed links batch (replicate mostLinks false) 0
-unfolding earlier firstBelow
-passed-none links batch = record {
+pub passed-none : (links : ℕ) (changed newcosts : List ℕ) → Passed links changed newcosts (replicate 256 0) (replicate 256 0) 0
+passed-none links changed newcosts = record {
   within = omega arith;
-  good = below-none (λ row. bad links batch row ≡ false);
-  long = length-replicate mostLinks false;
-  marks = λ link l. getD-replicate mostLinks link false false l;
+  good = below-none (λ row. bad links (rowsOfColumns changed newcosts) row ≡ false);
+  threaded = threaded-none changed;
 }
 
-module _ {links : ℕ} {batch : List Change} {named : List Bool} {i : ℕ} (p : Passed links batch named i) where
+module _ {links : ℕ} {changed newcosts ends before : List ℕ} {i : ℕ} (p : Passed links changed newcosts ends before i) where
+  abbrev batch : List Change
+  batch = rowsOfColumns changed newcosts
+
   -- the first bad row, or their number
   first-bad : (i < length batch → bad links batch i ≡ true) → (t : Table) → length (t .starts) ≡ links → firstBadRow t batch ≡ i
   unfolding bad firstBadRow namesNoLink
@@ -120,45 +96,46 @@ module _ {links : ℕ} {batch : List Change} {named : List Bool} {i : ℕ} (p : 
     verdict = λ t e. rw (first-bad (λ l. absurd (omega arith)) t e, le-ltb i (length batch) end);
   }
 
-  module _ (row : i < length batch) {link : ℕ} (names : linkAt batch i ≡ link) where
-    pub no-link : links ≤ link → RowsJudged links batch (RowNamesNoLink i)
+  module _ (row : i < length batch) where
+    pub no-link : links ≤ getD changed i 0 → RowsJudged links batch (RowNamesNoLink i)
     unfolding judgeRows namesNoLink bad
     no-link l =
-        let past : leb links (linkAt batch i) ≡ true = rw names (le-leb links link l) in
+        let past : leb links (linkAt batch i) ≡ true = rw (row-at changed newcosts i row .link) (le-leb links (getD changed i 0) l) in
         record { verdict = λ t e. rw (first-bad (λ m. rw past) t e, lt-ltb i (length batch) row, e, past) }
 
-    module _ (is-link : link < links) (few : links ≤ mostLinks) where
-      here : leb links (linkAt batch i) ≡ false
-      here = rw names (lt-leb links link is-link)
+    module _ (is-link : getD changed i 0 < links) {r : ℕ} (e : Earliest changed i (getD changed i 0) r) where
+      is-here : leb links (linkAt batch i) ≡ false
+      is-here = rw (row-at changed newcosts i row .link) (lt-leb links (getD changed i 0) is-link)
 
-      again : namesAgain batch i ≡ getD named link false
-      unfolding namesAgain earlier
-      again = sym (p .marks link (omega arith) ∙ rw (← names) refl)
-
-      pub named-again : getD named link false ≡ true → RowsJudged links batch (RowNamesLinkAgain i)
-      unfolding judgeRows namesNoLink bad
-      named-again mark =
-          record { verdict = λ t e. rw (first-bad (λ m. rw (here, again) mark) t e, lt-ltb i (length batch) row, e, here) }
-
-      pub passed-more : getD named link false ≡ false → Passed links batch (set named link true) (i + 1)
-      unfolding bad
-      passed-more mark = record {
-        within = omega arith;
-        good = below-more (λ row. bad links batch row ≡ false) i (p .good) (or-false _ _ here (again ∙ mark));
-        long = length-set named link true ∙ p .long;
-        marks = λ k l. at k l (ℕ-discrete k link);
-      }
+      again : namesAgain batch i ≡ ltb r i
+      unfolding namesAgain
+      again = ap (λ (f : ℕ). ltb f i) (first-is first)
         where
-          at : (k : ℕ) → k < mostLinks → Dec (k ≡ link) → getD (set named link true) k false ≡ earlier batch k (i + 1)
-          at k l (yes e) =
-              rw (e, getD-set-same named link true false (omega (arith, p .long)), earlier-more batch link i, eq-eqb (linkAt batch i) link names, or-true) refl
-          at k l (no n) =
-              rw (
-                getD-set-other named link k true false n,
-                earlier-more batch k i,
-                ne-eqb (linkAt batch i) k (λ e. n (sym e ∙ names)),
-                or-same,
-              ) (p .marks k l)
+          names : ℕ → Bool
+          names earlier = eqb (linkAt batch earlier) (linkAt batch i)
+
+          link-of : (k : ℕ) → k < i + 1 → linkAt batch k ≡ getD changed k 0
+          link-of k l = row-at changed newcosts k (omega arith) .link
+
+          first : First names i r
+          first = record {
+            within = e .within;
+            before = λ k l. rw (link-of k (omega (arith, e .within)), link-of i (omega arith)) (ne-eqb _ _ (e .none-before k l));
+            passes = λ l. rw (link-of r (omega arith), link-of i (omega arith)) (eq-eqb _ _ (e .names l));
+          }
+
+      pub named-again : r < i → RowsJudged links batch (RowNamesLinkAgain i)
+      unfolding judgeRows namesNoLink bad
+      named-again l =
+          record { verdict = λ t q. rw (first-bad (λ m. rw (is-here, again, lt-ltb r i l)) t q, lt-ltb i (length batch) row, q, is-here) }
+
+      pub passed-more : i ≤ r → {ends' before' : List ℕ} → Threaded changed ends' before' (i + 1) → Passed links changed newcosts ends' before' (i + 1)
+      unfolding bad
+      passed-more none threaded = record {
+        within = omega arith;
+        good = below-more (λ row. bad links batch row ≡ false) i (p .good) (or-false _ _ is-here (again ∙ le-ltb r i none));
+        threaded = threaded;
+      }
 
 -- ---- the number of rows
 

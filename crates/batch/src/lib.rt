@@ -18,24 +18,25 @@ fn row_count(changed: &[u16], newcosts: &[u16]) -> usize
     costs
 }
 
-// One pass, with a mark for each link that an earlier row names: the first bad row decides.
+// One pass: the first bad row decides. The rows passed are kept on threads, so that each is compared with few others.
 fn judge_rows(links: usize, changed: &[u16], newcosts: &[u16]) -> Answer
     requires { ⌜ (links ≤ mostLinks) × (length (rowsOfColumns (now changed) (now newcosts)) ≤ mostRows) ⌝ }
     ensures { λ r. ⌜ RowsJudged links (rowsOfColumns (now (changed .entry)) (now (newcosts .entry))) r ⌝ }
 {
     let rows = row_count(changed, newcosts);
-    let mut named = [false; 4096];
+    let mut ends = [0u16; 256];
+    let mut before = [0u16; 256];
     let mut i: usize = 0;
     while i < rows {
         let next = i + 1;
-        let link = changed[i] as usize;
-        if links <= link {
+        let link = changed[i];
+        if links <= link as usize {
             return Answer::RowNamesNoLink(i as u16);
         }
-        if named[link] {
+        if threads::earliest_row(changed, &ends, &before, i, link) < i {
             return Answer::RowNamesLinkAgain(i as u16);
         }
-        named[link] = true;
+        threads::add_row(changed, &mut ends, &mut before, i);
         i = next;
     }
     Answer::Accepted

@@ -1,5 +1,6 @@
--- `batch::judge_rows` meets its contract. The loop's invariant: the rows before `i` are good, and the marks tell which links
--- they name; the measure is the number of rows left. Each answer is what decides in Laws. Assumes nothing.
+-- `batch::judge_rows` meets its contract. The loop's invariant: the rows before `i` are good, and threaded; the measure is the
+-- number of rows left. Each answer is what decides in Laws. Assumes nothing.
+use mathlib.Core.Path.{_≡_, sym}
 use mathlib.Core.List.{List}
 use Prim.Native.Nat.{_-_, _<_}
 use native.Mathlib.Omega.{arith}
@@ -12,10 +13,10 @@ use Rattle.batch.proofs.judge_rows.Statement.{statement}
 use Rattle.batch.proofs.judge_rows.Tie as tie
 
 abbrev Inv-loop : tie.InvT-loop
-Inv-loop links changed newcosts rows named₀ i₀ named i = Passed links (rowsOfColumns changed newcosts) named i
+Inv-loop links changed newcosts rows ends₀ before₀ i₀ ends before i = Passed links changed newcosts ends before i
 
 abbrev μ-loop : tie.MeasureT-loop
-μ-loop links changed newcosts rows named₀ i₀ named i = rows - i
+μ-loop links changed newcosts rows ends₀ before₀ i₀ ends before i = rows - i
 
 -- the row of a turn
 abbrev batch : tie.Start Inv-loop μ-loop → List Change
@@ -27,11 +28,14 @@ in-batch c = rw (← c .before .before .row-count .ensures) (c .loop-test .taken
 row : (c : tie.In-loop Inv-loop μ-loop) → RowAt (c .before .before .before .before .before .args .changed .now) (c .before .before .before .before .before .args .newcosts .now) (c .before .loop .i)
 row c = row-at _ _ _ (in-batch c)
 
+row-few : (c : tie.In-loop Inv-loop μ-loop) → c .before .loop .i < 256
+row-few c = omega (arith, in-batch c, c .before .before .before .before .before .pre .1)
+
 row-count-requires : tie.Need-row-count-requires Inv-loop μ-loop
 row-count-requires c κs = search needs
 
 loop-holds : tie.Need-loop-holds Inv-loop μ-loop
-loop-holds c = passed-none _ _
+loop-holds c = passed-none _ _ _
 
 add-next : tie.Need-add-next Inv-loop μ-loop
 add-next c = search needs
@@ -42,36 +46,42 @@ mul-link c = search needs
 shared-slice-read-link : tie.Need-shared-slice-read-link Inv-loop μ-loop
 shared-slice-read-link c = row (c .before) .has-link
 
-cast-link : tie.Need-cast-link Inv-loop μ-loop
-cast-link c = omega (arith, c .shared-slice-known3 .given (c .before .before .loop .i))
+cast-if1 : tie.Need-cast-if1 Inv-loop μ-loop
+cast-if1 c = omega (arith, c .shared-slice-known3 .given (c .before .before .loop .i))
 
-cast-t13 : tie.Need-cast-t13 Inv-loop μ-loop
-cast-t13 c = search needs
+cast-t14 : tie.Need-cast-t14 Inv-loop μ-loop
+cast-t14 c = search needs
 
 returns : tie.Need-returns Inv-loop μ-loop
-returns c = no-link (c .before .before .before .loop .inv) (in-batch (c .before .before)) (row (c .before .before) .link) (c .if1 .taken)
+returns c = no-link (c .before .before .before .loop .inv) (in-batch (c .before .before)) (c .if1 .taken)
 
-array-read-if2 : tie.Need-array-read-if2 Inv-loop μ-loop
-array-read-if2 c = search needs
+slice-aggregate-earliest-row : tie.Need-slice-aggregate-earliest-row Inv-loop μ-loop
+slice-aggregate-earliest-row c = sym (c .before .before .before .before .loop .inv .threaded .ends-long)
 
-cast-t17 : tie.Need-cast-t17 Inv-loop μ-loop
-cast-t17 c = search needs
+slice-aggregate-earliest-row-2 : tie.Need-slice-aggregate-earliest-row-2 Inv-loop μ-loop
+slice-aggregate-earliest-row-2 c = sym (c .before .before .before .before .before .loop .inv .threaded .before-long)
+
+earliest-row-requires : tie.Need-earliest-row-requires Inv-loop μ-loop
+earliest-row-requires c κs = c .before .before .before .before .before .loop .inv .threaded
+
+cast-t19 : tie.Need-cast-t19 Inv-loop μ-loop
+cast-t19 c = search needs
 
 returns-2 : tie.Need-returns-2 Inv-loop μ-loop
-returns-2 c =
-    let turn = c .before .before .before in
-    named-again (turn .before .loop .inv) (in-batch turn) (row turn .link) (c .before .if1 .left) (c .before .before .before .before .before .before .before .before .pre .0) (c .if2 .taken)
+returns-2 c = named-again (c .before .before .before .before .before .before .before .loop .inv) (in-batch (c .before .before .before .before .before .before)) (c .before .before .before .before .if1 .left) (c .before .earliest-row .ensures) (c .if2 .taken)
 
-array-write-named : tie.Need-array-write-named Inv-loop μ-loop
-array-write-named c = search needs
+add-row-requires : tie.Need-add-row-requires Inv-loop μ-loop
+add-row-requires c κs =
+    let turn = c .before .before .before .before .before .before .before .before in
+    let earliest = c .before .before .before .earliest-row in
+    let none : earliest .result ≡ turn .before .loop .i = omega (arith, earliest .ensures .within) in
+    (turn .before .loop .inv .threaded, row turn .has-link, row-few turn, rw none at (earliest .ensures))
 
 loop-less : tie.Need-loop-less Inv-loop μ-loop
 loop-less c = search needs
 
 loop-again : tie.Need-loop-again Inv-loop μ-loop
-loop-again c =
-    let turn = c .before .before .before in
-    passed-more (turn .before .loop .inv) (in-batch turn) (row turn .link) (c .before .if1 .left) (c .before .before .before .before .before .before .before .before .pre .0) (c .if2 .left)
+loop-again c = passed-more (c .before .before .before .before .before .before .before .before .before .before .loop .inv) (in-batch (c .before .before .before .before .before .before .before .before .before)) (c .before .before .before .before .before .before .before .if1 .left) (c .before .before .before .before .earliest-row .ensures) (c .before .before .before .if2 .left) (c .add-row .ensures)
 
 returns-3 : tie.Need-returns-3 Inv-loop μ-loop
 returns-3 c = none-bad (c .before .loop .inv) (rw (← c .before .before .row-count .ensures) (c .loop-test .left))
@@ -87,13 +97,15 @@ judge-rows-spec =
     add-next
     mul-link
     shared-slice-read-link
-    cast-link
-    cast-t13
+    cast-if1
+    cast-t14
     returns
-    array-read-if2
-    cast-t17
+    slice-aggregate-earliest-row
+    slice-aggregate-earliest-row-2
+    earliest-row-requires
+    cast-t19
     returns-2
-    array-write-named
+    add-row-requires
     loop-less
     loop-again
     returns-3)
