@@ -1,14 +1,11 @@
--- Theorems about specs/, in reading order.
+-- Laws about specs/, in reading order: what the code's proofs cite, and what an edit of a definition breaks.
 pub mod Logic
 pub mod Search
 pub mod Check
 pub mod Sound
 pub mod Unique
-pub mod Kept
 pub mod Room
 pub mod Judged
+pub mod Applies
 pub mod OneOutcome
-pub mod Refused
-pub mod Demands
-pub mod Pier
-pub mod Wrong
+pub mod Accepted

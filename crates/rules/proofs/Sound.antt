@@ -161,6 +161,16 @@ module _ {N : Net} (L : Legal N) {r : Rows} (F : Fits N r) where
 
 -- ---- a tree that says the least sums fits
 
+-- where distances are least sums, the start of a path's last link has the length of the path before it
+pub least-before : {N : Net} {r : Rows} → ((v : ℕ) → Reached N r v → Least N v (r .dist v)) → {u v : ℕ} {ks : List ℕ} → Path N r u ks
+    → (k : ℕ) → Usable N k → N .start k ≡ u → N .end k ≡ v → Reached N r v → Reached N r (N .start k)
+    → total N ks + N .cost k ≡ r .dist v → r .dist (N .start k) ≡ total N ks
+least-before {N} {r} least {v = v} {ks} p k us e f s q t =
+    let near = least (N .start k) q .least (total N ks) (rw e (path-walk p)) in
+    let far = least v s .least (r .dist (N .start k) + N .cost k)
+    (subst (λ (x : ℕ). Walk N x (r .dist (N .start k) + N .cost k)) f (along k us (least (N .start k) q .walk))) in
+    omega arith
+
 module _ {N : Net} (L : Legal N) {r : Rows} (S : Shortest N r) where
   -- the mark or not
   kind : (v : ℕ) → (r .dist v ≡ N .mark) ⊎ Reached N r v
@@ -177,17 +187,11 @@ module _ {N : Net} (L : Legal N) {r : Rows} (S : Shortest N r) where
   -- the start of a path's last link is reached, at the length of the path before it
   before-last : {u v : ℕ} {ks : List ℕ} → Path N r u ks → (k : ℕ) → Usable N k → N .start k ≡ u → N .end k ≡ v → Reached N r v
       → total N ks + N .cost k ≡ r .dist v → Reached N r (N .start k) × (r .dist (N .start k) ≡ total N ks)
-  before-last {u} {v} {ks} p k us e f s t = at (kind (N .start k))
+  before-last {v = v} {ks} p k us e f s t = at (kind (N .start k))
     where
-      way : Walk N (N .start k) (total N ks)
-      way = rw e (path-walk p)
-
       at : (r .dist (N .start k) ≡ N .mark) ⊎ Reached N r (N .start k) → Reached N r (N .start k) × (r .dist (N .start k) ≡ total N ks)
-      at (inl m) = absurd (omega (arith, S .no-route (N .start k) m (total N ks) way, S .is-route v s))
-      at (inr q) =
-          let near = S .least (N .start k) q .least (total N ks) way in
-          let far = S .least v s .least (r .dist (N .start k) + N .cost k) (subst (λ (x : ℕ). Walk N x (r .dist (N .start k) + N .cost k)) f (along k us (S .least (N .start k) q .walk))) in
-          (q, omega arith)
+      at (inl m) = absurd (omega (arith, S .no-route (N .start k) m (total N ks) (rw e (path-walk p)), S .is-route v s))
+      at (inr q) = (q, least-before (S .least) p k us e f s q t)
 
   hung-by : (v : ℕ) → Reached N r v → v ≢ N .root → {ks : List ℕ} → Usable N (r .parent v) → N .end (r .parent v) ≡ v
       → Path N r (N .start (r .parent v)) ks → total N (ks ++ (r .parent v ∷ [])) ≡ r .dist v

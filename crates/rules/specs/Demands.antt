@@ -1,4 +1,4 @@
--- The three demands. proofs/Refused.antt and proofs/Demands.antt show that the rules meet them. Assumes nothing.
+-- The three demands. The crate `demands` shows that the rules meet them. Assumes nothing.
 use mathlib.Core.Path.{_≡_}
 use mathlib.Core.Logic.{_≢_}
 use mathlib.Core.Bool.{Bool, true}
@@ -8,33 +8,21 @@ use lib.ListN.{length, getD}
 use Rattle.rules.specs.Net.{Net, Walk, Least}
 use Rattle.rules.specs.Tree.{Rows, Reached, Fits, Routed}
 use Rattle.rules.specs.Keep.{keptCount}
-use Rattle.rules.specs.Columns.{Table, Tree, netOf, rowsOf, after, mostCost, unreached}
+use Rattle.rules.specs.Columns.{Table, Tree, netOf, rowsOf, after, mostCost, unreached, noLink}
 use Rattle.rules.specs.Refusals.{accepted}
-use Rattle.rules.specs.Jobs.{differs, Built, Updated}
+use Rattle.rules.specs.Jobs.{written, differs, Built, Updated}
 use Rattle.rules.specs.declared.Change.{Change}
 
--- the numbers that each job can give
-abbrev pub ForBuild : ℕ → Type 0
-ForBuild number = (1 ≤ number) × (number ≤ 5)
+-- ---- demand 1
 
-abbrev pub ForTree : ℕ → Type 0
-ForTree number = (1 ≤ number) × (number ≤ 6)
-
-pub data ForUpdate (number : ℕ) : Type 0 where
-  up-to-nine : 1 ≤ number → number ≤ 9 → ForUpdate number
-  list-short : number ≡ 12 → ForUpdate number
-
-pub data ForPath (number : ℕ) : Type 0 where
-  by-tree : ForTree number → ForPath number
-  asked : 10 ≤ number → number ≤ 12 → ForPath number
-
--- a refused update: one of the listed numbers, and tree, costs and list as they were
-pub record Untouched (t : Table) (old : Tree) (list : List ℕ) (number : ℕ) (new : Tree) (costs listed : List ℕ) (count : ℕ) : Type 0 where
-  pub number-listed : ForUpdate number
+-- a refused update leaves tree, costs and list as they were
+pub record Untouched (t : Table) (old : Tree) (list : List ℕ) (new : Tree) (costs listed : List ℕ) (count : ℕ) : Type 0 where
   pub tree-stays : new ≡ old
   pub costs-stay : costs ≡ t .costs
   pub list-stays : listed ≡ list
   pub count-zero : count ≡ 0
+
+-- ---- demand 2
 
 -- what stands after a fresh build and after any sequence of accepted batches
 pub data Stands : Table → Tree → Type 0 where
@@ -51,13 +39,31 @@ pub record Narrow (costs : List ℕ) : Type 0 where
 pub record LeastSums (t : Table) (tree : Tree) : Type 0 where
   pub least : (v : ℕ) → Reached (netOf t) (rowsOf tree) v → Least (netOf t) v (rowsOf tree .dist v)
   pub no-path : (v : ℕ) → rowsOf tree .dist v ≡ unreached → (d : ℕ) → Walk (netOf t) v d → ⊥
+  pub only-then : (v : ℕ) → ((d : ℕ) → Walk (netOf t) v d → ⊥) → rowsOf tree .dist v ≡ unreached
   pub routed : (v : ℕ) → Reached (netOf t) (rowsOf tree) v → Routed (netOf t) (rowsOf tree) v
 
--- the list names exactly those nodes whose row differs, in rising order
+-- the least sums, a tree path of that length with its first link for each reached node, and every other entry empty:
+-- a tree says this exactly when it fits
+pub record TellsRoutes (t : Table) (tree : Tree) : Type 0 where
+  pub sums : LeastSums t tree
+  pub root-parent : rowsOf tree .parent (t .root) ≡ noLink
+  pub no-parent : (v : ℕ) → rowsOf tree .dist v ≡ unreached → rowsOf tree .parent v ≡ noLink
+  pub no-first : (v : ℕ) → rowsOf tree .dist v ≡ unreached → rowsOf tree .first v ≡ noLink
+
+-- the nodes named are exactly those whose row differs, in rising order
 pub record Names (old new : Rows) (changed : List ℕ) : Type 0 where
   pub named : (v : ℕ) → differs old new v ≡ true → (i : ℕ) × (i < length changed) × (getD changed i 0 ≡ v)
   pub only : (i : ℕ) → i < length changed → differs old new (getD changed i 0) ≡ true
   pub rising : (i j : ℕ) → i < j → j < length changed → getD changed i 0 < getD changed j 0
+
+-- what is handed back names them at the front of the list as it was lent, and counts them
+pub record ListsChanged (old new : Rows) (list listed : List ℕ) (count : ℕ) : Type 0 where
+  pub changed : List ℕ
+  pub names : Names old new changed
+  pub at-front : listed ≡ written changed list
+  pub counted : count ≡ length changed
+
+-- ---- demand 3
 
 -- no shortest route tree keeps more nodes on their old link; a node leaves its link only where no such tree could
 -- have kept it

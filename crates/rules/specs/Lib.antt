@@ -5,8 +5,8 @@ pub mod Keep
 pub mod Tests
 pub mod Columns
 pub mod Refusals
+pub mod Applies
 pub mod Answers
 pub mod Jobs
 pub mod Demands
-pub mod Pier
 pub mod Sums

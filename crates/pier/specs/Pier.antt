@@ -1,13 +1,13 @@
--- The pier network and what 01 says of it, P1 to P12. proofs/Pier.antt shows each line of the rules themselves.
--- Assumes nothing.
+-- The pier network and what 01 says of it, P1 to P12, and two paths more. proofs/Pier.antt shows each line of the
+-- rules themselves. Assumes nothing.
 use mathlib.Core.Path.{_≡_}
 use mathlib.Core.List.{List, [], _∷_, _++_}
 use Prim.Native.Nat.{ℕ, _-_, _≤_}
 use lib.ListN.{length, replicate}
 use Rattle.rules.specs.Columns.{Table, Tree, arrays, mostNodes, unreached, noLink, after, applied}
 use Rattle.rules.specs.Refusals.{Verdict, accepted, refused}
 use Rattle.rules.specs.Jobs.{written, Built, Updated, Pathed}
 use Rattle.rules.specs.declared.Change.{Change}
 
 infixr 80 _to_
 -- ---- the network
@@ -126,4 +126,7 @@ pierLines =
     -- P12
     fresh lone tree12 ∷
     path lone tree12 0 [] ∷
+    -- paths in the trees of P1 and P8
+    path pier tree1 3 (0 ∷ 3 ∷ 6 ∷ []) ∷
+    path (after pier (0 to 0 ∷ [])) tree8 1 (1 ∷ 5 ∷ []) ∷
     []

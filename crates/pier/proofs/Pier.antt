@@ -1,27 +1,27 @@
 -- P1 to P12, shown of the rules: a test that computes, what it says, and the table that passes it. Assumes nothing.
 use mathlib.Core.Path.{_≡_, refl, sym, ap, _∙_}
-use mathlib.Core.Logic.{_⊎_, inl, inr}
+use mathlib.Core.Logic.{_⊎_, inl, inr, _≢_}
 use mathlib.Core.Bool.{Bool, true, false, _&&_, _||_, not}
-use mathlib.Core.List.{List, [], _∷_}
+use mathlib.Core.List.{List, [], _∷_, _++_}
 use Prim.Native.Nat.{ℕ, zero, suc, _≤_, _<_}
 use native.Mathlib.Omega.{arith}
 use native.Mathlib.Decide.{decLt}
 use lib.Dec.{T, eqb, ltb, leb, eqb→eq, T-not, not-T}
 use lib.ListN.{length, getD}
 use borrow.Author.Tests.{le-ltb, eqb-true}
-use Rattle.rules.specs.Net.{Net}
-use Rattle.rules.specs.Tree.{Rows, Tight, Hung, Row, Fits, Path, at-root}
+use Rattle.rules.specs.Net.{Net, Usable}
+use Rattle.rules.specs.Tree.{Rows, Tight, Hung, Row, Fits, Path, at-root, by-parent}
 use Rattle.rules.specs.Keep.{Smallest, Choice, keeps, takes, Fresh, Next}
 use Rattle.rules.specs.Tests.{pick, all, firstBelow, usable, reached, tight, offers, rootRow, bareRow, hungRow, breaks}
 use Rattle.rules.specs.Columns.{Table, Proper, Tree, Whole, netOf, rowsOf, mostNodes, after, applied}
 use Rattle.rules.specs.Refusals.{Verdict, accepted, refused, _then_, when, judgeLinks, judgeTree, judgeBatch, judgeUpdate, judgeAsked, judgeRows, wrongEndsAt, wrongOrderAt, linkAt, namesNoLink, namesAgain, firstBadRow}
 use Rattle.rules.specs.Jobs.{written, differs, changedBelow, Built, built, Updated, updated, not-updated, Pathed, pathed}
-use Rattle.rules.specs.Pier.{Line, fresh, update, refuse, path, Holds, EachHolds, pierLines, pier, lone}
+use Rattle.pier.specs.Pier.{Line, fresh, update, refuse, path, Holds, EachHolds, pierLines, pier, lone}
 use Rattle.rules.specs.declared.Change.{Change}
-use Rattle.rules.proofs.Logic.{and-l, and-r, or-cases, all-at, T-true, T-false, true-T, first-of}
-use Rattle.rules.proofs.Check.{tight-of, tight-is, hung-is, keeps-rules}
+use Rattle.rules.proofs.Logic.{neqb→ne, and-l, and-r, or-cases, all-at, T-true, T-false, true-T, first-of}
+use Rattle.rules.proofs.Check.{usable-of, tight-of, tight-is, hung-is, keeps-rules}
 use Rattle.rules.proofs.Judged.{links-proper, beyond, then-first}
 use Rattle.rules.proofs.OneOutcome.{after-proper, tree-links}
 
 -- ---- tests
 
@@ -65,15 +65,25 @@ module _ (N : Net) (r : Rows) where
   unfolding fits hungRow smallest all
   isFresh = fits && all (λ v. not (hungRow N r v) || smallest v) (N .nodes)
 
+  -- the links ks, the last first, lead up from v to the root, and each is the parent of its end
+  unfoldable leads : ℕ → List ℕ → Bool
+  unfolding usable
+  leads v [] = eqb v (N .root)
+  leads v (k ∷ ks) = not (eqb v (N .root)) && eqb k (r .parent v) && usable N k && eqb (N .end k) v && leads (N .start k) ks
+
+unfoldable backward : List ℕ → List ℕ
+backward [] = []
+backward (k ∷ ks) = backward ks ++ (k ∷ [])
+
 unfoldable pub passes : Line → Bool
-unfolding isAccepted isRefused same whole isNext isFresh judgeLinks judgeBatch judgeAsked applied changedBelow
+unfolding isAccepted isRefused same whole isNext isFresh leads backward judgeLinks judgeBatch judgeAsked applied changedBelow
 passes (fresh t tree) = isAccepted (judgeLinks t) && whole tree && isFresh (netOf t) (rowsOf tree)
 passes (update t old batch new changed) =
     isAccepted (judgeBatch t old batch) && whole new && isNext (netOf (after t batch)) (rowsOf new) (rowsOf old .parent)
     && same changed (changedBelow (rowsOf old) (rowsOf new) (t .nodes))
 passes (refuse t old batch number value) = isRefused number value (judgeBatch t old batch)
-passes (path t tree node []) = isAccepted (judgeAsked t tree node) && eqb node (t .root)
-passes (path t tree node (k ∷ ks)) = false
+passes (path t tree node links) =
+    isAccepted (judgeAsked t tree node) && leads (netOf t) (rowsOf tree) node (backward links) && same (backward (backward links)) links
 
 -- ---- what passes holds
 
@@ -120,6 +130,16 @@ module _ (N : Net) (r : Rows) where
   unfolding chosen
   chosen-of old v true e q = keeps (tight-of N r (old v) v (rw e tt)) (eqb→eq (r .parent v) (old v) q)
   chosen-of old v false e q = takes (λ h. rw e at (tight-is N r (old v) v h)) (smallest-of v q)
+
+  one-more : {k v : ℕ} {ks : List ℕ} → k ≡ r .parent v → v ≢ N .root → Usable N k → N .end k ≡ v → Path N r (N .start k) ks → Path N r v (ks ++ (k ∷ []))
+  one-more {ks = ks} e n u s p = rw e (by-parent {ks = ks} n (rw (← e) u) (rw (← e) s) (rw (← e) p))
+
+  leads-of : (v : ℕ) (ks : List ℕ) → T (leads N r v ks) → Path N r v (backward ks)
+  unfolding leads backward
+  leads-of v [] q = rw (eqb→eq v (N .root) q) at-root
+  leads-of v (k ∷ ks) q =
+      one-more (eqb→eq k (r .parent v) (search (and-l, and-r))) (neqb→ne v (N .root) (search (and-l, and-r))) (usable-of N k (search (and-l, and-r)))
+      (eqb→eq (N .end k) v (search (and-l, and-r))) (leads-of (N .start k) ks (search (and-l, and-r)))
 
   -- of each node that hangs
   of-hung : (p : ℕ → Bool) → T (all (λ v. not (hungRow N r v) || p v) (N .nodes)) → (v : ℕ) → Hung N r v → T (p v)
@@ -181,9 +201,10 @@ line-holds (update t old batch new changed) q = λ list l.
     (next-of (after-proper batch (batch-table t old batch e)) new w (rowsOf old .parent) (search (and-l, and-r)))
     (same-of changed (changedBelow (rowsOf old) (rowsOf new) (t .nodes)) (search (and-l, and-r)))
 line-holds (refuse t old batch number value) q = λ list. not-updated (still-refused t old batch list (refused-of number value (judgeBatch t old batch) q))
-line-holds (path t tree node []) q = λ list l.
-    pathed {links = []} (accepted-of (judgeAsked t tree node) (search and-l)) (rw (eqb→eq node (t .root) (search (and-l, and-r))) at-root) l
-line-holds (path t tree node (k ∷ ks)) q = absurd q
+line-holds (path t tree node links) q = λ list l.
+    let way = leads-of (netOf t) (rowsOf tree) node (backward links) (search (and-l, and-r)) in
+    let turned = same-of (backward (backward links)) links (search (and-l, and-r)) in
+    pathed (accepted-of (judgeAsked t tree node) (search (and-l, and-r))) (rw turned at way) l
 
 -- ---- the table
 

@@ -1,88 +1,27 @@
--- Demands 2 and 3, of every tree that the rules admit. Assumes nothing.
+-- The list of changed nodes names exactly those whose row differs, in rising order. Assumes nothing.
 use mathlib.Core.Path.{_≡_, refl, sym, ap, _∙_}
-use mathlib.Core.Logic.{_⊎_, inl, inr, _≢_}
 use mathlib.Core.Bool.{Bool, true, false, _&&_, not}
 use mathlib.Core.List.{List, [], _∷_, _++_, append-nil}
-use Prim.Native.Nat.{ℕ, zero, suc, _+_, _*_, _≤_, _<_}
+use Prim.Native.Nat.{ℕ, zero, suc, _+_, _≤_, _<_}
 use native.Mathlib.Omega.{arith}
-use native.Mathlib.Nat.{not-suc-le-zero, mul-le-mul-left}
+use native.Mathlib.Nat.{not-suc-le-zero}
 use native.Mathlib.Decide.{decLt, ℕ-discrete}
-use lib.Dec.{T, eqb}
+use lib.Dec.{eqb}
 use lib.ListN.{length, getD, length-append, List·getD-append}
 use lib.Seq.{getD-append-seam}
 use borrow.Author.Tests.{eq-eqb}
-use Rattle.rules.specs.Net.{Net, Legal, Roomy, Walk, Least}
-use Rattle.rules.specs.Tree.{Rows, Reached, RootRow, Bare, Hung, Row, root, hung, bare, Fits}
-use Rattle.rules.specs.Keep.{Fresh, Next, keptCount}
+use Rattle.rules.specs.Net.{Net, Legal}
+use Rattle.rules.specs.Tree.{Rows, Bare, Row, root, hung, bare, Fits}
 use Rattle.rules.specs.Tests.{pick}
-use Rattle.rules.specs.Columns.{Table, Proper, Tree, Whole, netOf, rowsOf, after, applied, unreached, mostCost, mostNodes}
-use Rattle.rules.specs.Refusals.{Verdict, accepted, refused, judgeTree, judgeUpdate}
-use Rattle.rules.specs.Jobs.{written, differs, changedBelow, Built, built, not-built, Updated, updated, not-updated}
-use Rattle.rules.specs.Demands.{Stands, first, later, Narrow, LeastSums, Names, Stable}
+use Rattle.rules.specs.Columns.{Table, Tree, Whole, netOf, rowsOf}
+use Rattle.rules.specs.Refusals.{accepted}
+use Rattle.rules.specs.Jobs.{differs, changedBelow, Updated}
+use Rattle.rules.specs.Demands.{Names}
 use Rattle.rules.specs.declared.Change.{Change}
 use Rattle.rules.proofs.Logic.{true-false}
-use Rattle.rules.proofs.Sound.{fits-shortest}
-use Rattle.rules.proofs.Kept.{keeps-each, keeps-most}
-use Rattle.rules.proofs.Room.{dist-bound, walk-reached}
-use Rattle.rules.proofs.Judged.{links-proper, legal, roomy, tree-accepted, not-refused}
-use Rattle.rules.proofs.OneOutcome.{after-proper, tree-links, update-links}
-
--- ---- what acceptance gives
-
-pub record Good (t : Table) (tree : Tree) : Type 0 where
-  pub table : Proper t
-  pub whole : Whole tree
-  pub fits : Fits (netOf t) (rowsOf tree)
-
-pub built-good : {t : Table} {v : Verdict} {tree : Tree} → Built t v tree → v ≡ accepted → Good t tree
-built-good {t} (built e w f) q = record { table = links-proper t e; whole = w; fits = f .fits }
-built-good (not-built e) q = absurd (not-refused q)
-
--- what an accepted update hands back
-pub record Accept (t : Table) (old : Tree) (batch : List Change) (list : List ℕ) (new : Tree) (c l : List ℕ) (n : ℕ) : Type 0 where
-  pub judged : judgeUpdate t old batch list ≡ accepted
-  pub whole : Whole new
-  pub next : Next (netOf (after t batch)) (rowsOf new) (rowsOf old .parent)
-  pub costs : c ≡ applied batch (t .costs)
-  pub listed : l ≡ written (changedBelow (rowsOf old) (rowsOf new) (t .nodes)) list
-  pub count : n ≡ length (changedBelow (rowsOf old) (rowsOf new) (t .nodes))
-
-pub update-accept : {t : Table} {old new : Tree} {batch : List Change} {list costs listed : List ℕ} {v : Verdict} {count : ℕ}
-    → Updated t old batch list v new costs listed count → v ≡ accepted → Accept t old batch list new costs listed count
-update-accept {list = list} (updated changed e w n q) a =
-    record { judged = e; whole = w; next = n; costs = refl; listed = ap (λ (l : List ℕ). written l list) q; count = ap length q }
-update-accept (not-updated e) a = absurd (not-refused a)
-
-module _ {t : Table} {old new : Tree} {batch : List Change} {list costs listed : List ℕ} {count : ℕ} where
-  pub update-table : Accept t old batch list new costs listed count → Proper t
-  update-table a = tree-links t old (update-links t old batch list (a .judged))
-
-  pub update-good : Accept t old batch list new costs listed count → Good (after t batch) new
-  update-good a = record { table = after-proper batch (update-table a); whole = a .whole; fits = a .next .fits }
-
-pub stands-good : {t : Table} {tree : Tree} → Stands t tree → Good t tree
-stands-good (first b) = built-good b refl
-stands-good (later s u) = update-good (update-accept u refl)
-
--- ---- demand 2
-
-pub demand-2 : {t : Table} {tree : Tree} → Stands t tree → Narrow (t .costs) → LeastSums t tree
-demand-2 {t} {tree} s c =
-    let g = stands-good s in
-    let short = fits-shortest (legal (g .table)) (g .fits) in
-    record {
-      least = short .least;
-      no-path = λ v m d w. walk-reached (legal (g .table)) (roomy (g .table) c) (g .fits) w m;
-      routed = short .routed;
-    }
-
--- no distance of a reached node passes 16,711,425
-pub largest-distance : {t : Table} {tree : Tree} → Good t tree → Narrow (t .costs) → (v : ℕ) → v < t .nodes → Reached (netOf t) (rowsOf tree) v
-    → rowsOf tree .dist v ≤ 16711425
-largest-distance {t} g c v l s =
-    omega (arith, dist-bound (legal (g .table)) (roomy (g .table) c) (g .fits) v l s, mul-le-mul-left mostCost (g .table .few-nodes))
-
--- ---- the list of changed nodes
+use Rattle.rules.proofs.Judged.{legal, tree-accepted}
+use Rattle.rules.proofs.OneOutcome.{update-links}
+use Rattle.rules.proofs.Accepted.{update-accept, update-good}
 
 -- what the first n nodes give the list
 record NamesBelow (old new : Rows) (n : ℕ) (changed : List ℕ) : Type 0 where
@@ -145,9 +84,9 @@ module _ {N M : Net} (L : Legal N) (K : Legal M) {r s : Rows} (R : Fits N r) (S 
       let b = bare-past K (omega arith) (S .row v) in
       rw (eq-eqb (r .dist v) (s .dist v) (cc), eq-eqb (r .parent v) (s .parent v) (cc), eq-eqb (r .first v) (s .first v) (cc)) refl
 
-pub demand-2-list : {t : Table} {old new : Tree} {batch : List Change} {list costs listed : List ℕ} {count : ℕ} → Whole old
+pub changed-named : {t : Table} {old new : Tree} {batch : List Change} {list costs listed : List ℕ} {count : ℕ} → Whole old
     → Updated t old batch list accepted new costs listed count → Names (rowsOf old) (rowsOf new) (changedBelow (rowsOf old) (rowsOf new) (t .nodes))
-demand-2-list {t} {old} {new} {batch} {list} w u =
+changed-named {t} {old} {new} {batch} {list} w u =
     let a = update-accept u refl in
     let before = tree-accepted t old w (update-links t old batch list (a .judged)) in
     let below = names-below (rowsOf old) (rowsOf new) (t .nodes) in
@@ -161,15 +100,3 @@ demand-2-list {t} {old} {new} {batch} {list} w u =
         → (i : ℕ) × (i < length (changedBelow (rowsOf old) (rowsOf new) (t .nodes))) × (getD (changedBelow (rowsOf old) (rowsOf new) (t .nodes)) i 0 ≡ v)
     at v d (yes l) past = names-below (rowsOf old) (rowsOf new) (t .nodes) .named v l d
     at v d (no l) past = absurd (true-false (sym d ∙ past (omega arith)))
-
--- ---- demand 3
-
-pub demand-3 : {t : Table} {old new : Tree} {batch : List Change} {list costs listed : List ℕ} {count : ℕ}
-    → Updated t old batch list accepted new costs listed count → Stable (netOf (after t batch)) (rowsOf old .parent) (rowsOf new)
-demand-3 u =
-    let a = update-accept u refl in
-    let fine = legal (update-good a .table) in
-    record {
-      most = λ other f. keeps-most fine (a .next) f;
-      each = λ v o n other f p. n (keeps-each fine (a .next) f v o p);
-    }

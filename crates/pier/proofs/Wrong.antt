@@ -6,14 +6,14 @@ use mathlib.Core.List.{List, [], _∷_}
 use Prim.Native.Nat.{ℕ, _≤_}
 use native.Mathlib.Omega.{arith}
 use lib.ListN.{length, getD}
 use Rattle.rules.specs.Columns.{Table, Tree, rowsOf, after, applied}
 use Rattle.rules.specs.Refusals.{Verdict, accepted, refused}
 use Rattle.rules.specs.Jobs.{written, Built, Updated}
-use Rattle.rules.specs.Pier.{EachHolds, pierLines, pier, lone, rows, padded, batch2, batch4, tree1, tree2, tree4, tree12}
+use Rattle.pier.specs.Pier.{EachHolds, pierLines, pier, lone, rows, padded, batch2, batch4, tree1, tree2, tree4, tree12}
 use Rattle.rules.specs.declared.Change.{Change}
 use Rattle.rules.proofs.Judged.{not-refused}
 use Rattle.rules.proofs.OneOutcome.{built-once, updated-once}
-use Rattle.rules.proofs.Pier.{pier-holds}
+use Rattle.pier.proofs.Pier.{pier-holds}
 
 -- ---- the lines that are used
 

@@ -1,0 +1,6 @@
+-- The demands, in their order, with what they rest on.
+pub mod Refused
+pub mod Fits
+pub mod Changed
+pub mod Kept
+pub mod Demands

@@ -1,0 +1,1 @@
+// No code: proofs/ shows that the rules meet the three demands.

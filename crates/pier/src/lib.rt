@@ -1,0 +1,1 @@
+// No code: specs/ has the pier network and what is said of it, proofs/ shows it.

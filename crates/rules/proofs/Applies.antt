@@ -1,0 +1,491 @@
+-- Every job gives the smallest number that applies, with its value, and accepts exactly where none applies.
+-- Assumes nothing.
+use mathlib.Core.Path.{_≡_, refl, sym, ap, _∙_}
+use mathlib.Core.Logic.{_⊎_, inl, inr, _≢_}
+use mathlib.Core.Bool.{Bool, true, false, _||_, not}
+use mathlib.Core.List.{List}
+use Prim.Native.Nat.{ℕ, zero, suc, _-_, _≤_, _<_}
+use native.Mathlib.Omega.{arith}
+use native.Mathlib.Decide.{decLt, ℕ-discrete}
+use lib.Dec.{T, eqb, ltb, leb}
+use lib.ListN.{length, getD}
+use borrow.Author.Tests.{lt-ltb, le-ltb, le-leb, eq-eqb, ne-eqb, ltb-true, leb-true, eqb-true, eqb-false, not-false}
+use Rattle.rules.specs.Tree.{Row, Path}
+use Rattle.rules.specs.Tests.{pick, firstBelow, breaks, reached}
+use Rattle.rules.specs.Columns.{Table, Tree, netOf, rowsOf, mostNodes, mostLinks, mostRows, unreached}
+use Rattle.rules.specs.Refusals.{Verdict, accepted, refused, _then_, when, whenOne, wrongNodeCount, wrongRoot, wrongColumns, wrongEnds, wrongEndsAt, wrongOrderAt, judgeEach, judgeLinks, judgeTree, linkAt, namesNoLink, namesAgain, firstBadRow, judgeRows, judgeBatch, judgeUpdate, judgeAsked}
+use Rattle.rules.specs.Applies.{FirstOf, WrongEnds, start-no-node, end-no-node, start-is-end, Falls, OfTable, no-nodes, many-nodes, root-no-node, ends-unequal, costs-unequal, many-links, wrong-ends, wrong-order, OfTree, of-table, unfit, BadRow, no-link, again, OfUpdate, many-rows, bad-row, OfPath, no-node, no-route, Gives, none, smallest}
+use Rattle.rules.specs.Jobs.{Pathed, pathed, too-short, not-pathed}
+use Rattle.rules.specs.declared.Change.{Change}
+use Rattle.rules.proofs.Logic.{First, first-of, or-cases, or-r, T-true, true-T, true-false}
+use Rattle.rules.proofs.Check.{keeps-rules, breaks-rule}
+use Rattle.rules.proofs.Sound.{path-unique}
+use Rattle.rules.proofs.Judged.{not-refused}
+
+-- ---- one number, and several asked in rising order
+
+-- a number that applies where something is so, and carries 0
+data Only (number : ℕ) (So : Type 0) : ℕ → ℕ → Type 0 where
+  only : So → Only number So number 0
+
+-- a number that applies where something is so of one of n places, and carries the first
+data OnlyFirst (number n : ℕ) (So : ℕ → Type 0) : ℕ → ℕ → Type 0 where
+  first : {place : ℕ} → FirstOf n So place → OnlyFirst number n So number place
+
+data Either (A B : ℕ → ℕ → Type 0) (number value : ℕ) : Type 0 where
+  here : A number value → Either A B number value
+  there : B number value → Either A B number value
+
+-- a test says whether something is so
+record Decides (test : Bool) (So : Type 0) : Type 0 where
+  yes-so : test ≡ true → So
+  so-yes : So → test ≡ true
+
+gives-when : (test : Bool) (number : ℕ) {So : Type 0} → Decides test So → Gives (Only number So) (when test number)
+gives-when true number {So} d = smallest (only (d .yes-so refl)) bound carries
+  where
+    bound : (m x : ℕ) → Only number So m x → number ≤ m
+    bound m x (only s) = omega arith
+
+    carried : {m x : ℕ} → Only number So m x → x ≡ 0
+    carried (only s) = refl
+
+    carries : (x : ℕ) → Only number So number x → x ≡ 0
+    carries x o = carried o
+gives-when false number {So} d = none at
+  where
+    at : (m x : ℕ) → Only number So m x → ⊥
+    at m x (only s) = true-false (sym (d .so-yes s))
+
+-- what is first by a test is the first of which something is so
+module _ (n : ℕ) (test : ℕ → Bool) {So : ℕ → Type 0} (d : (i : ℕ) → Decides (test i) (So i)) where
+  found : firstBelow test n < n → FirstOf n So (firstBelow test n)
+  found l =
+      let f = first-of test n in
+      record {
+        is-place = l;
+        is-so = d (firstBelow test n) .yes-so (f .passes l);
+        none-before = λ i m s. true-false (sym (d i .so-yes s) ∙ f .before i m);
+      }
+
+  nothing : n ≤ firstBelow test n → {i : ℕ} → FirstOf n So i → ⊥
+  nothing l {i} s = true-false (sym (d i .so-yes (s .is-so)) ∙ first-of test n .before i (omega (arith, s .is-place)))
+
+one-first : {n : ℕ} {So : ℕ → Type 0} {i j : ℕ} → FirstOf n So i → FirstOf n So j → i ≡ j
+one-first {i = i} {j} a b = at (decLt i j) (decLt j i)
+  where
+    at : Dec (i < j) → Dec (j < i) → i ≡ j
+    at (yes l) e = absurd (b .none-before i l (a .is-so))
+    at (no l) (yes e) = absurd (a .none-before j e (b .is-so))
+    at (no l) (no e) = omega arith
+
+gives-first : (n : ℕ) (test : ℕ → Bool) (number : ℕ) {So : ℕ → Type 0} → ((i : ℕ) → Decides (test i) (So i))
+    → Gives (OnlyFirst number n So) (whenOne n test number)
+gives-first n test number {So} d = at (decLt (firstBelow test n) n)
+  where
+    bound : (m x : ℕ) → OnlyFirst number n So m x → number ≤ m
+    bound m x (first s) = omega arith
+
+    empty : n ≤ firstBelow test n → (m x : ℕ) → OnlyFirst number n So m x → ⊥
+    empty l m x (first s) = nothing n test d l s
+
+    carried : {y m x : ℕ} → FirstOf n So y → OnlyFirst number n So m x → x ≡ y
+    carried f (first s) = one-first s f
+
+    at : Dec (firstBelow test n < n) → Gives (OnlyFirst number n So) (whenOne n test number)
+    at (yes l) = let f = found n test d l in rw (lt-ltb (firstBelow test n) n l) (smallest (first f) bound (λ x o. carried f o))
+    at (no l) = rw (le-ltb (firstBelow test n) n (omega arith)) (none (empty (omega arith)))
+
+-- the first verdict's numbers are at most k, and the second's above it
+abbrev UpTo : ℕ → (ℕ → ℕ → Type 0) → Type 0
+UpTo k A = (m x : ℕ) → A m x → m ≤ k
+
+abbrev Above : ℕ → (ℕ → ℕ → Type 0) → Type 0
+Above k A = (m x : ℕ) → A m x → k < m
+
+-- a refusal stands, whatever is asked behind it
+gives-early : (k : ℕ) {A B : ℕ → ℕ → Type 0} {v : Verdict} → UpTo k A → Above k B → Gives A v → (v ≡ accepted → ⊥) → Gives (Either A B) v
+gives-early k low high (none a) n = absurd (n refl)
+gives-early k {A} {B} low high (smallest {number} {value} a least one) n = smallest (here a) bound carries
+  where
+    bound : (m x : ℕ) → Either A B m x → number ≤ m
+    bound m x (here s) = least m x s
+    bound m x (there s) = omega (arith, low number value a, high m x s)
+
+    carries : (x : ℕ) → Either A B number x → x ≡ value
+    carries x (here s) = one x s
+    carries x (there s) = absurd (omega (arith, low number value a, high number x s))
+
+gives-then : (k : ℕ) {A B : ℕ → ℕ → Type 0} {v w : Verdict} → UpTo k A → Above k B → Gives A v → Gives B w → Gives (Either A B) (v then w)
+gives-then k {A} {B} low high (none a) (none b) = none at
+  where
+    at : (m x : ℕ) → Either A B m x → ⊥
+    at m x (here s) = a m x s
+    at m x (there s) = b m x s
+gives-then k {A} {B} low high (none a) (smallest {number} {value} b least one) = smallest (there b) bound carries
+  where
+    bound : (m x : ℕ) → Either A B m x → number ≤ m
+    bound m x (here s) = absurd (a m x s)
+    bound m x (there s) = least m x s
+
+    carries : (x : ℕ) → Either A B number x → x ≡ value
+    carries x (here s) = absurd (a number x s)
+    carries x (there s) = one x s
+gives-then k low high (smallest a least one) g = gives-early k low high (smallest a least one) not-refused
+
+-- the same numbers and values, said in another way
+gives-same : {A B : ℕ → ℕ → Type 0} {v : Verdict} → ((m x : ℕ) → A m x → B m x) → ((m x : ℕ) → B m x → A m x) → Gives A v → Gives B v
+gives-same to from (none a) = none (λ m x b. a m x (from m x b))
+gives-same to from (smallest a least one) = smallest (to _ _ a) (λ m x b. least m x (from m x b)) (λ x b. one x (from _ x b))
+
+-- a verdict whose numbers are all above k, and one number more before it
+record GivesAbove (k : ℕ) (A : ℕ → ℕ → Type 0) (v : Verdict) : Type 0 where
+  gives : Gives A v
+  above : Above k A
+
+last : (k : ℕ) {So : ℕ → Type 0} (n : ℕ) (test : ℕ → Bool) → ((i : ℕ) → Decides (test i) (So i))
+    → GivesAbove k (OnlyFirst (suc k) n So) (whenOne n test (suc k))
+last k {So} n test d = record { gives = gives-first n test (suc k) d; above = own }
+  where
+    own : Above k (OnlyFirst (suc k) n So)
+    own m x (first s) = omega arith
+
+module _ (k : ℕ) {B : ℕ → ℕ → Type 0} {w : Verdict} (rest : GivesAbove (suc k) B w) where
+  next-when : {So : Type 0} (test : Bool) → Decides test So → GivesAbove k (Either (Only (suc k) So) B) (when test (suc k) then w)
+  next-when {So} test d = record { gives = gives-then (suc k) own (rest .above) (gives-when test (suc k) d) (rest .gives); above = all }
+    where
+      own : UpTo (suc k) (Only (suc k) So)
+      own m x (only s) = omega arith
+
+      all : Above k (Either (Only (suc k) So) B)
+      all m x (here (only s)) = omega arith
+      all m x (there s) = omega (arith, rest .above m x s)
+
+  next-first : {So : ℕ → Type 0} (n : ℕ) (test : ℕ → Bool) → ((i : ℕ) → Decides (test i) (So i))
+      → GivesAbove k (Either (OnlyFirst (suc k) n So) B) (whenOne n test (suc k) then w)
+  next-first {So} n test d = record { gives = gives-then (suc k) own (rest .above) (gives-first n test (suc k) d) (rest .gives); above = all }
+    where
+      own : UpTo (suc k) (OnlyFirst (suc k) n So)
+      own m x (first s) = omega arith
+
+      all : Above k (Either (OnlyFirst (suc k) n So) B)
+      all m x (here (first s)) = omega arith
+      all m x (there s) = omega (arith, rest .above m x s)
+
+-- ---- tests
+
+decides-lt : (m n : ℕ) → Decides (ltb m n) (m < n)
+decides-lt m n = record { yes-so = ltb-true m n; so-yes = lt-ltb m n }
+
+decides-le : (m n : ℕ) → Decides (leb m n) (m ≤ n)
+decides-le m n = record { yes-so = leb-true m n; so-yes = le-leb m n }
+
+decides-eq : (m n : ℕ) → Decides (eqb m n) (m ≡ n)
+decides-eq m n = record { yes-so = eqb-true m n; so-yes = eq-eqb m n }
+
+decides-not : (b : Bool) {So : Type 0} → Decides b So → Decides (not b) (So → ⊥)
+decides-not true d = record { yes-so = λ e s. true-false (sym e); so-yes = λ n. absurd (n (d .yes-so refl)) }
+decides-not false d = record { yes-so = λ e s. true-false (sym (d .so-yes s)); so-yes = λ n. refl }
+
+decides-or : (a b : Bool) {A B : Type 0} → Decides a A → Decides b B → Decides (a || b) (A ⊎ B)
+decides-or a b {A} {B} d e = record { yes-so = λ q. at (or-cases a b (true-T (a || b) q)); so-yes = back }
+  where
+    at : T a ⊎ T b → A ⊎ B
+    at (inl t) = inl (d .yes-so (T-true a t))
+    at (inr t) = inr (e .yes-so (T-true b t))
+
+    back : A ⊎ B → (a || b) ≡ true
+    back (inl s) = rw (d .so-yes s) refl
+    back (inr s) = T-true (a || b) (or-r a b (true-T b (e .so-yes s)))
+
+-- ---- a table: 1 to 5
+
+wrong-ends-decides : (t : Table) (k : ℕ) → Decides (wrongEndsAt t k) (WrongEnds t k)
+unfolding wrongEndsAt
+wrong-ends-decides t k = record { yes-so = λ e. at (by .yes-so e); so-yes = λ w. by .so-yes (back w) }
+  where
+    by : Decides (wrongEndsAt t k) (((t .nodes ≤ getD (t .starts) k 0) ⊎ (t .nodes ≤ getD (t .ends) k 0)) ⊎ (getD (t .starts) k 0 ≡ getD (t .ends) k 0))
+    by = decides-or _ _ (decides-or _ _ (decides-le (t .nodes) (getD (t .starts) k 0)) (decides-le (t .nodes) (getD (t .ends) k 0))) (decides-eq (getD (t .starts) k 0) (getD (t .ends) k 0))
+
+    at : ((t .nodes ≤ getD (t .starts) k 0) ⊎ (t .nodes ≤ getD (t .ends) k 0)) ⊎ (getD (t .starts) k 0 ≡ getD (t .ends) k 0) → WrongEnds t k
+    at (inl (inl l)) = start-no-node l
+    at (inl (inr l)) = end-no-node l
+    at (inr e) = start-is-end e
+
+    back : WrongEnds t k → ((t .nodes ≤ getD (t .starts) k 0) ⊎ (t .nodes ≤ getD (t .ends) k 0)) ⊎ (getD (t .starts) k 0 ≡ getD (t .ends) k 0)
+    back (start-no-node l) = inl (inl l)
+    back (end-no-node l) = inl (inr l)
+    back (start-is-end e) = inr e
+
+falls-decides : (t : Table) (k : ℕ) → Decides (wrongOrderAt t k) (Falls t k)
+unfolding wrongOrderAt
+falls-decides t k = record { yes-so = λ e. at k (ltb-true (getD (t .starts) k 0) (getD (t .starts) (k - 1) 0) e); so-yes = λ f. lt-ltb (getD (t .starts) k 0) (getD (t .starts) (k - 1) 0) (f .below) }
+  where
+    at : (k : ℕ) → getD (t .starts) k 0 < getD (t .starts) (k - 1) 0 → Falls t k
+    at zero l = absurd (omega arith)
+    at (suc k) l = record { has-before = omega arith; below = l }
+
+module _ (t : Table) where
+  abbrev Counts : Type 0
+  Counts = (t .nodes ≡ 0) ⊎ (mostNodes < t .nodes)
+
+  abbrev Columns : Type 0
+  Columns = ((length (t .starts) ≢ length (t .ends)) ⊎ (length (t .starts) ≢ length (t .costs))) ⊎ (mostLinks < length (t .starts))
+
+  abbrev Asked : ℕ → ℕ → Type 0
+  Asked = Either (Only 1 Counts) (Either (Only 2 (t .nodes ≤ t .root)) (Either (Only 3 Columns)
+      (Either (OnlyFirst 4 (length (t .starts)) (WrongEnds t)) (OnlyFirst 5 (length (t .starts)) (Falls t)))))
+
+  to-table : (m x : ℕ) → Asked m x → OfTable t m x
+  to-table m x (here (only (inl e))) = no-nodes e
+  to-table m x (here (only (inr l))) = many-nodes l
+  to-table m x (there (here (only l))) = root-no-node l
+  to-table m x (there (there (here (only (inl (inl n)))))) = ends-unequal n
+  to-table m x (there (there (here (only (inl (inr n)))))) = costs-unequal n
+  to-table m x (there (there (here (only (inr l))))) = many-links l
+  to-table m x (there (there (there (here (first f))))) = wrong-ends f
+  to-table m x (there (there (there (there (first f))))) = wrong-order f
+
+  from-table : (m x : ℕ) → OfTable t m x → Asked m x
+  from-table m x (no-nodes e) = here (only (inl e))
+  from-table m x (many-nodes l) = here (only (inr l))
+  from-table m x (root-no-node l) = there (here (only l))
+  from-table m x (ends-unequal n) = there (there (here (only (inl (inl n)))))
+  from-table m x (costs-unequal n) = there (there (here (only (inl (inr n)))))
+  from-table m x (many-links l) = there (there (here (only (inr l))))
+  from-table m x (wrong-ends f) = there (there (there (here (first f))))
+  from-table m x (wrong-order f) = there (there (there (there (first f))))
+
+  pub table-gives : Gives (OfTable t) (judgeLinks t)
+  unfolding judgeLinks
+  table-gives =
+      let n = length (t .starts) in
+      let five = last 4 n (wrongOrderAt t) (falls-decides t) in
+      let four = next-first 3 five n (wrongEndsAt t) (wrong-ends-decides t) in
+      let three = next-when 2 four (wrongColumns t) (decides-or _ _ (decides-or _ _ (decides-not _ (decides-eq n (length (t .ends)))) (decides-not _ (decides-eq n (length (t .costs))))) (decides-lt mostLinks n)) in
+      let two = next-when 1 three (wrongRoot t) (decides-le (t .nodes) (t .root)) in
+      let one = next-when 0 two (wrongNodeCount t) (decides-or _ _ (decides-eq (t .nodes) 0) (decides-lt mostNodes (t .nodes))) in
+      gives-same to-table from-table (one .gives)
+
+-- ---- a tree: 1 to 6
+
+table-upto : {t : Table} → UpTo 5 (OfTable t)
+table-upto m x (no-nodes e) = omega arith
+table-upto m x (many-nodes l) = omega arith
+table-upto m x (root-no-node l) = omega arith
+table-upto m x (ends-unequal n) = omega arith
+table-upto m x (costs-unequal n) = omega arith
+table-upto m x (many-links l) = omega arith
+table-upto m x (wrong-ends f) = omega arith
+table-upto m x (wrong-order f) = omega arith
+
+module _ (t : Table) (tree : Tree) where
+  breaks-decides : (v : ℕ) → Decides (breaks (netOf t) (rowsOf tree) v) (Row (netOf t) (rowsOf tree) v → ⊥)
+  breaks-decides v = record { yes-so = breaks-rule (netOf t) (rowsOf tree) v; so-yes = λ n. at n (breaks (netOf t) (rowsOf tree) v) refl }
+    where
+      at : (Row (netOf t) (rowsOf tree) v → ⊥) → (b : Bool) → breaks (netOf t) (rowsOf tree) v ≡ b → b ≡ true
+      at n true e = refl
+      at n false e = absurd (n (keeps-rules (netOf t) (rowsOf tree) v e))
+
+  abbrev Unfit : ℕ → ℕ → Type 0
+  Unfit = OnlyFirst 6 mostNodes (λ v. Row (netOf t) (rowsOf tree) v → ⊥)
+
+  to-tree : (m x : ℕ) → Either (OfTable t) Unfit m x → OfTree t tree m x
+  to-tree m x (here s) = of-table s
+  to-tree m x (there (first f)) = unfit f
+
+  from-tree : (m x : ℕ) → OfTree t tree m x → Either (OfTable t) Unfit m x
+  from-tree m x (of-table s) = here s
+  from-tree m x (unfit f) = there (first f)
+
+  pub tree-gives : Gives (OfTree t tree) (judgeTree t tree)
+  unfolding judgeTree
+  tree-gives =
+      let six = last 5 mostNodes (breaks (netOf t) (rowsOf tree)) breaks-decides in
+      gives-same to-tree from-tree (gives-then 5 table-upto (six .above) (table-gives t) (six .gives))
+
+tree-upto : {t : Table} {tree : Tree} → UpTo 6 (OfTree t tree)
+tree-upto m x (of-table s) = omega (arith, table-upto m x s)
+tree-upto m x (unfit f) = omega arith
+
+-- ---- an update: 1 to 9 and 12
+
+module _ (t : Table) (batch : List Change) where
+  no-link-decides : (row : ℕ) → Decides (namesNoLink t batch row) (BadRow t batch row 8)
+  unfolding namesNoLink
+  no-link-decides row = record { yes-so = λ e. no-link (leb-true (length (t .starts)) (linkAt batch row) e); so-yes = λ b. le-leb (length (t .starts)) (linkAt batch row) (at b refl) }
+    where
+      at : {m : ℕ} → BadRow t batch row m → m ≡ 8 → length (t .starts) ≤ linkAt batch row
+      at (no-link l) e = l
+      at (again i l q) e = absurd (omega arith)
+
+  again-decides : (row : ℕ) → Decides (namesAgain batch row) (BadRow t batch row 9)
+  unfolding namesAgain
+  again-decides row = record { yes-so = λ e. let l = ltb-true (firstBelow same row) row e in again (firstBelow same row) l (eqb-true _ _ (first-of same row .passes l)); so-yes = λ b. at b refl (decLt (firstBelow same row) row) }
+    where
+      same : ℕ → Bool
+      same earlier = eqb (linkAt batch earlier) (linkAt batch row)
+
+      at : {m : ℕ} → BadRow t batch row m → m ≡ 9 → Dec (firstBelow same row < row) → ltb (firstBelow same row) row ≡ true
+      at b e (yes f) = lt-ltb (firstBelow same row) row f
+      at (no-link l) e (no f) = absurd (omega arith)
+      at (again i l q) e (no f) = absurd (true-false (sym (eq-eqb (linkAt batch i) (linkAt batch row) q) ∙ first-of same row .before i (omega arith)))
+
+  abbrev Bad : ℕ → Type 0
+  Bad row = (m : ℕ) × BadRow t batch row m
+
+  bad-decides : (row : ℕ) → Decides (namesNoLink t batch row || namesAgain batch row) (Bad row)
+  bad-decides row = record { yes-so = λ e. at (by .yes-so e); so-yes = λ b. by .so-yes (back (b .1)) }
+    where
+      by : Decides (namesNoLink t batch row || namesAgain batch row) (BadRow t batch row 8 ⊎ BadRow t batch row 9)
+      by = decides-or _ _ (no-link-decides row) (again-decides row)
+
+      at : BadRow t batch row 8 ⊎ BadRow t batch row 9 → Bad row
+      at (inl b) = (8, b)
+      at (inr b) = (9, b)
+
+      back : {m : ℕ} → BadRow t batch row m → BadRow t batch row 8 ⊎ BadRow t batch row 9
+      back (no-link l) = inl (no-link l)
+      back (again i l q) = inr (again i l q)
+
+  -- 8 and 9, by the first bad row
+  data OfRows : ℕ → ℕ → Type 0 where
+    bad : {number row : ℕ} → BadRow t batch row number → FirstOf (length batch) Bad row → OfRows number row
+
+  rows-gives : Gives OfRows (judgeRows t batch)
+  unfolding judgeRows firstBadRow
+  rows-gives = at (decLt (firstBadRow t batch) (length batch)) (namesNoLink t batch (firstBadRow t batch)) refl
+    where
+      test : ℕ → Bool
+      test row = namesNoLink t batch row || namesAgain batch row
+
+      empty : length batch ≤ firstBadRow t batch → (m x : ℕ) → OfRows m x → ⊥
+      empty l m x (bad b f) = nothing (length batch) test bad-decides l f
+
+      carried : {y m x : ℕ} → FirstOf (length batch) Bad y → OfRows m x → x ≡ y
+      carried f (bad b s) = one-first s f
+
+      eight : {m x : ℕ} → OfRows m x → 8 ≤ m
+      eight (bad (no-link l) f) = omega arith
+      eight (bad (again i l q) f) = omega arith
+
+      -- the first bad row names a link
+      nine : {y m x : ℕ} → FirstOf (length batch) Bad y → namesNoLink t batch y ≡ false → OfRows m x → 9 ≤ m
+      nine f e (bad (no-link l) s) = absurd (true-false (sym (no-link-decides _ .so-yes (no-link l)) ∙ rw (one-first s f) e))
+      nine f e (bad (again i l q) s) = omega arith
+
+      at : Dec (firstBadRow t batch < length batch) → (b : Bool) → namesNoLink t batch (firstBadRow t batch) ≡ b → Gives OfRows (judgeRows t batch)
+      at (yes l) true e =
+          let f = found (length batch) test bad-decides l in
+          rw (lt-ltb (firstBadRow t batch) (length batch) l, e) (smallest (bad (no-link-decides (firstBadRow t batch) .yes-so e) f) (λ m x o. eight o) (λ x o. carried f o))
+      at (yes l) false e =
+          let f = found (length batch) test bad-decides l in
+          rw (lt-ltb (firstBadRow t batch) (length batch) l, e) (smallest (bad (again-decides (firstBadRow t batch) .yes-so (rw e at (bad-decides (firstBadRow t batch) .so-yes (f .is-so)))) f) (λ m x o. nine f e o) (λ x o. carried f o))
+      at (no l) b e = rw (le-ltb (firstBadRow t batch) (length batch) (omega arith)) (none (empty (omega arith)))
+
+rows-above : {t : Table} {batch : List Change} → Above 7 (OfRows t batch)
+rows-above m x (bad (no-link s) f) = omega arith
+rows-above m x (bad (again i s q) f) = omega arith
+
+rows-upto : {t : Table} {batch : List Change} → UpTo 9 (OfRows t batch)
+rows-upto m x (bad (no-link s) f) = omega arith
+rows-upto m x (bad (again i s q) f) = omega arith
+
+module _ (t : Table) (tree : Tree) (batch : List Change) (list : List ℕ) where
+  abbrev Batches : ℕ → ℕ → Type 0
+  Batches = Either (OfTree t tree) (Either (Only 7 (mostRows < length batch)) (OfRows t batch))
+
+  abbrev Updates : ℕ → ℕ → Type 0
+  Updates = Either Batches (Only 12 (length list < t .nodes))
+
+  to-update : (m x : ℕ) → Updates m x → OfUpdate t tree batch list m x
+  to-update m x (here (here s)) = OfUpdate.of-tree s
+  to-update m x (here (there (here (only l)))) = many-rows l
+  to-update m x (here (there (there (bad b f)))) = bad-row b f
+  to-update m x (there (only l)) = OfUpdate.list-short l
+
+  from-update : (m x : ℕ) → OfUpdate t tree batch list m x → Updates m x
+  from-update m x (OfUpdate.of-tree s) = here (here s)
+  from-update m x (many-rows l) = here (there (here (only l)))
+  from-update m x (bad-row b f) = here (there (there (bad b f)))
+  from-update m x (OfUpdate.list-short l) = there (only l)
+
+  batch-upto : UpTo 9 Batches
+  batch-upto m x (here s) = omega (arith, tree-upto m x s)
+  batch-upto m x (there (here (only l))) = omega arith
+  batch-upto m x (there (there s)) = rows-upto m x s
+
+  twelve : Above 9 (Only 12 (length list < t .nodes))
+  twelve m x (only l) = omega arith
+
+  pub update-gives : Gives (OfUpdate t tree batch list) (judgeUpdate t tree batch list)
+  unfolding judgeUpdate judgeBatch
+  update-gives =
+      let rows : GivesAbove 7 (OfRows t batch) (judgeRows t batch) = record { gives = rows-gives t batch; above = rows-above } in
+      let seven = next-when 6 rows (ltb mostRows (length batch)) (decides-lt mostRows (length batch)) in
+      gives-same to-update from-update
+      (gives-then 9 batch-upto twelve (gives-then 6 tree-upto (seven .above) (tree-gives t tree) (seven .gives)) (gives-when (ltb (length list) (t .nodes)) 12 (decides-lt (length list) (t .nodes))))
+
+-- ---- a path: 1 to 6 and 10 to 12
+
+module _ (t : Table) (tree : Tree) (node : ℕ) where
+  abbrev Askeds : ℕ → ℕ → Type 0
+  Askeds = Either (OfTree t tree) (Either (Only 10 (t .nodes ≤ node)) (Only 11 (rowsOf tree .dist node ≡ unreached)))
+
+  unreached-decides : Decides (not (reached (netOf t) (rowsOf tree) node)) (rowsOf tree .dist node ≡ unreached)
+  unfolding reached
+  unreached-decides = at (eqb (rowsOf tree .dist node) unreached) (decides-eq (rowsOf tree .dist node) unreached)
+    where
+      at : (b : Bool) {So : Type 0} → Decides b So → Decides (not (not b)) So
+      at true d = d
+      at false d = d
+
+  asked-upto : UpTo 11 Askeds
+  asked-upto m x (here s) = omega (arith, tree-upto m x s)
+  asked-upto m x (there (here (only l))) = omega arith
+  asked-upto m x (there (there (only e))) = omega arith
+
+  eleven-above : Above 10 (Only 11 (rowsOf tree .dist node ≡ unreached))
+  eleven-above m x (only e) = omega arith
+
+  asked-gives : Gives Askeds (judgeAsked t tree node)
+  unfolding judgeAsked
+  asked-gives =
+      let unreached = not (reached (netOf t) (rowsOf tree) node) in
+      let eleven : GivesAbove 10 _ (when unreached 11) = record { gives = gives-when unreached 11 unreached-decides; above = eleven-above } in
+      let ten = next-when 9 eleven (leb (t .nodes) node) (decides-le (t .nodes) node) in
+      gives-then 6 tree-upto (λ m x s. let l = ten .above m x s in omega arith) (tree-gives t tree) (ten .gives)
+
+module _ (t : Table) (tree : Tree) (node : ℕ) (list : List ℕ) where
+  -- the path has more links than the list has places
+  record Longer : Type 0 where
+    links : List ℕ
+    path : Path (netOf t) (rowsOf tree) node links
+    longer : length list < length links
+
+  to-path : (m x : ℕ) → Either (Askeds t tree node) (Only 12 Longer) m x → OfPath t tree node list m x
+  to-path m x (here (here s)) = OfPath.of-tree s
+  to-path m x (here (there (here (only l)))) = no-node l
+  to-path m x (here (there (there (only e)))) = no-route e
+  to-path m x (there (only p)) = OfPath.list-short (p .path) (p .longer)
+
+  from-path : (m x : ℕ) → OfPath t tree node list m x → Either (Askeds t tree node) (Only 12 Longer) m x
+  from-path m x (OfPath.of-tree s) = here (here s)
+  from-path m x (no-node l) = here (there (here (only l)))
+  from-path m x (no-route e) = here (there (there (only e)))
+  from-path m x (OfPath.list-short {links} p l) = there (only (record { links = links; path = p; longer = l }))
+
+  longer-above : Above 11 (Only 12 Longer)
+  longer-above m x (only p) = omega arith
+
+  -- 12 is judged where the path is known
+  with-path : (short : Bool) → Decides short Longer → judgeAsked t tree node ≡ accepted → Gives (OfPath t tree node list) (when short 12)
+  with-path short d e = gives-same to-path from-path
+      (gives-then 11 (asked-upto t tree node) longer-above (rw e at (asked-gives t tree node)) (gives-when short 12 d))
+
+  pub path-gives : {v : Verdict} {listed : List ℕ} {count : ℕ} → Pathed t tree node list v listed count → Gives (OfPath t tree node list) v
+  path-gives (pathed e p l) =
+      with-path false (record { yes-so = λ q. absurd (true-false (sym q)); so-yes = λ s. absurd (omega (arith, ap length (path-unique p refl (s .path)), s .longer)) }) e
+  path-gives (too-short e p l) = with-path true (record { yes-so = λ q. record { links = _; path = p; longer = l }; so-yes = λ s. refl }) e
+  path-gives (not-pathed e) =
+      gives-same to-path from-path (gives-early 11 (asked-upto t tree node) longer-above (rw e at (asked-gives t tree node)) not-refused)

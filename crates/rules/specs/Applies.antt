@@ -1,0 +1,76 @@
+-- 01's table of refusals in its own words: which numbers apply to an input, and what each then carries. Several may
+-- apply: proofs/Applies.antt shows that every job gives the smallest. Assumes nothing.
+use mathlib.Core.Path.{_≡_}
+use mathlib.Core.Logic.{_≢_}
+use mathlib.Core.List.{List}
+use Prim.Native.Nat.{ℕ, _-_, _≤_, _<_}
+use lib.ListN.{length, getD}
+use Rattle.rules.specs.Tree.{Row, Path}
+use Rattle.rules.specs.Columns.{Table, Tree, netOf, rowsOf, mostNodes, mostLinks, mostRows, unreached}
+use Rattle.rules.specs.Refusals.{Verdict, accepted, refused, linkAt}
+use Rattle.rules.specs.declared.Change.{Change}
+
+-- the first of n places of which something is so
+pub record FirstOf (n : ℕ) (So : ℕ → Type 0) (place : ℕ) : Type 0 where
+  pub is-place : place < n
+  pub is-so : So place
+  pub none-before : (i : ℕ) → i < place → So i → ⊥
+
+-- ---- a table of links, judged and built on: 1 to 5
+
+-- its start or end not below the node count, or start = end
+pub data WrongEnds (t : Table) (k : ℕ) : Type 0 where
+  start-no-node : t .nodes ≤ getD (t .starts) k 0 → WrongEnds t k
+  end-no-node : t .nodes ≤ getD (t .ends) k 0 → WrongEnds t k
+  start-is-end : getD (t .starts) k 0 ≡ getD (t .ends) k 0 → WrongEnds t k
+
+-- its start is below the one before it
+pub record Falls (t : Table) (k : ℕ) : Type 0 where
+  pub has-before : 0 < k
+  pub below : getD (t .starts) k 0 < getD (t .starts) (k - 1) 0
+
+pub data OfTable (t : Table) : (number value : ℕ) → Type 0 where
+  no-nodes : t .nodes ≡ 0 → OfTable t 1 0
+  many-nodes : mostNodes < t .nodes → OfTable t 1 0
+  root-no-node : t .nodes ≤ t .root → OfTable t 2 0
+  ends-unequal : length (t .starts) ≢ length (t .ends) → OfTable t 3 0
+  costs-unequal : length (t .starts) ≢ length (t .costs) → OfTable t 3 0
+  many-links : mostLinks < length (t .starts) → OfTable t 3 0
+  wrong-ends : {k : ℕ} → FirstOf (length (t .starts)) (WrongEnds t) k → OfTable t 4 k
+  wrong-order : {k : ℕ} → FirstOf (length (t .starts)) (Falls t) k → OfTable t 5 k
+
+-- ---- a tree: 1 to 6
+
+pub data OfTree (t : Table) (tree : Tree) : (number value : ℕ) → Type 0 where
+  of-table : {number value : ℕ} → OfTable t number value → OfTree t tree number value
+  unfit : {node : ℕ} → FirstOf mostNodes (λ v. Row (netOf t) (rowsOf tree) v → ⊥) node → OfTree t tree 6 node
+
+-- ---- an update: 1 to 9 and 12
+
+-- a row names no link of the table, or a link of an earlier row; the first bad row decides
+pub data BadRow (t : Table) (batch : List Change) (row : ℕ) : (number : ℕ) → Type 0 where
+  no-link : length (t .starts) ≤ linkAt batch row → BadRow t batch row 8
+  again : (earlier : ℕ) → earlier < row → linkAt batch earlier ≡ linkAt batch row → BadRow t batch row 9
+
+pub data OfUpdate (t : Table) (old : Tree) (batch : List Change) (list : List ℕ) : (number value : ℕ) → Type 0 where
+  of-tree : {number value : ℕ} → OfTree t old number value → OfUpdate t old batch list number value
+  many-rows : mostRows < length batch → OfUpdate t old batch list 7 0
+  bad-row : {number row : ℕ} → BadRow t batch row number → FirstOf (length batch) (λ r. (m : ℕ) × BadRow t batch r m) row
+      → OfUpdate t old batch list number row
+  list-short : length list < t .nodes → OfUpdate t old batch list 12 0
+
+-- ---- a path: 1 to 6 and 10 to 12
+
+pub data OfPath (t : Table) (tree : Tree) (node : ℕ) (list : List ℕ) : (number value : ℕ) → Type 0 where
+  of-tree : {number value : ℕ} → OfTree t tree number value → OfPath t tree node list number value
+  no-node : t .nodes ≤ node → OfPath t tree node list 10 0
+  no-route : rowsOf tree .dist node ≡ unreached → OfPath t tree node list 11 0
+  list-short : {links : List ℕ} → Path (netOf t) (rowsOf tree) node links → length list < length links → OfPath t tree node list 12 0
+
+-- ---- which of several is given
+
+-- acceptance where none applies, else the smallest number that does, with the one value that it carries
+pub data Gives (Applies : (number value : ℕ) → Type 0) : Verdict → Type 0 where
+  none : ((number value : ℕ) → Applies number value → ⊥) → Gives Applies accepted
+  smallest : {number value : ℕ} → Applies number value → ((other x : ℕ) → Applies other x → number ≤ other)
+      → ((x : ℕ) → Applies number x → x ≡ value) → Gives Applies (refused number value)
