@@ -19,7 +19,7 @@ use Rattle.rules.proofs.Logic.{First, first-is, T-true, T-false, true-false}
 use Rattle.rules.proofs.Check.{breaks-rule}
 use Rattle.rules.proofs.Judged.{then-first, then-second, not-refused}
 use Rattle.rules.proofs.OneOutcome.{tree-links, length-applied}
-use Rattle.rules.proofs.Demands.{built-good, update-accept, update-good}
+use Rattle.rules.proofs.Accepted.{built-good, update-accept, update-good}
 use Rattle.batch.specs.Rows.{rowsOfColumns}
 use Rattle.tree.specs.Value.{valueOf}
 use Rattle.session.specs.declared.Phase.{Phase}

@@ -17,7 +17,7 @@ use Rattle.rules.specs.declared.Answer.{Answer}
 use Rattle.rules.specs.declared.Change.{Change}
 use Rattle.rules.proofs.Logic.{getD-any}
 use Rattle.rules.proofs.OneOutcome.{tree-links, length-applied}
-use Rattle.rules.proofs.Demands.{update-accept}
+use Rattle.rules.proofs.Accepted.{update-accept}
 use Rattle.links.proofs.Laws.{columns-decide, links-decide}
 use Rattle.batch.specs.Rows.{rowsOfColumns, BatchJudged}
 use Rattle.batch.proofs.Laws.{links-fewer}

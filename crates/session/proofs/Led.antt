@@ -17,7 +17,9 @@ use Rattle.rules.specs.Demands.{Stands, first, later, Narrow, Stable}
 use Rattle.rules.proofs.Logic.{true-false}
 use Rattle.rules.proofs.Sound.{fits-shortest}
 use Rattle.rules.proofs.Judged.{legal, tree-accepted}
-use Rattle.rules.proofs.Demands.{update-accept, demand-2, demand-2-list, demand-3}
+use Rattle.rules.proofs.Accepted.{update-accept}
+use Rattle.demands.proofs.Changed.{changed-named}
+use Rattle.demands.proofs.Demands.{demand-2, demand-3}
 use Rattle.tree.specs.Value.{valueOf}
 use Rattle.stream.specs.declared.Item.{Item}
 use Rattle.stream.specs.declared.Item.the-variants.{Apply, Ask}
@@ -151,6 +153,6 @@ apply-reports {s} {k} {d} h a o =
       changed = changedBelow (rowsOf (valueOf (r .tree))) (rowsOf (valueOf (d .state .tree))) (r .nodes);
       told = up .told ∙ ap Changed (done .count);
       listed = done .listed;
-      names = demand-2-list (met-stands h ready .whole) (up .updated);
+      names = changed-named (met-stands h ready .whole) (up .updated);
       stable = subst (λ (t : Table). Stable (netOf t) (rowsOf (valueOf (r .tree)) .parent) (rowsOf (valueOf (d .state .tree)))) (sym (applied-table up)) (demand-3 (up .updated));
     })

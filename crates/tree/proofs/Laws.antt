@@ -16,7 +16,7 @@ use Rattle.rules.specs.declared.Change.{Change}
 use Rattle.rules.proofs.Sound.{fits-shortest, root-zero, walk-node}
 use Rattle.rules.proofs.Judged.{legal, links-proper, tree-accepted, not-refused, then-first, then-second}
 use Rattle.rules.proofs.OneOutcome.{tree-links, update-links, after-proper}
-use Rattle.rules.proofs.Demands.{largest-distance}
+use Rattle.rules.proofs.Accepted.{largest-distance}
 use Rattle.judge.proofs.Laws.{refusal}
 use Rattle.batch.specs.Rows.{Named}
 use Rattle.batch.proofs.Batches.{rows-named}

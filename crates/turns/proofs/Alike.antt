@@ -16,7 +16,7 @@ use Rattle.rules.specs.Jobs.{changedBelow, Built}
 use Rattle.rules.specs.Refusals.{Verdict, accepted, refused, judgeLinks}
 use Rattle.rules.specs.declared.Change.{Change as Row-change}
 use Rattle.rules.proofs.OneOutcome.{built-once, next-once}
-use Rattle.rules.proofs.Demands.{Accept, update-accept, update-good}
+use Rattle.rules.proofs.Accepted.{Accept, update-accept, update-good}
 use Rattle.batch.specs.Rows.{rowsOfColumns}
 use Rattle.tree.specs.Value.{valueOf}
 use Rattle.stream.specs.declared.Item.{Item}
