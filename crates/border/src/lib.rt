@@ -1,25 +1,14 @@
 // The jobs for programs in other languages. A tree is lent as its three arrays of 256; the answer's number is handed
 // back, 0 for acceptance, and the value that it carries is written beside it.
 ghost use mathlib.Core.Path.{_≡_};
-ghost use Rattle.stream.specs.Records.{readAt};
-ghost use Rattle.rules.specs.Columns.{table, arrays};
 ghost use Rattle.rules.specs.Refusals.{judgeLinks, judgeTree};
 ghost use Rattle.rules.specs.Jobs.{Built, Updated, Pathed};
+ghost use Rattle.rules.specs.Lent.{lent, left, lentTable, lentTree, leftTree};
 ghost use Rattle.batch.specs.Rows.{rowsOfColumns};
-ghost use Rattle.rules.specs.Answers.{numberOf, valueOf};
-ghost use Rattle.border.specs.Verdicts.{verdict};
-ghost use Rattle.border.specs.Readings.{HandedBack, partsOf};
-use rules::Answer;
-use stream::Item;
+ghost use Rattle.stream.specs.Records.{readAt};
+ghost use Rattle.plain.specs.Verdicts.{InNumbers};
+ghost use Rattle.plain.specs.Readings.{HandedBack};
 use tree::Tree;
-
-// The number, with the value written.
-fn tell(answer: Answer, value: &mut u16) -> u16
-    ensures { λ r. ⌜ (r ≡ numberOf answer) × (now (value .exit) ≡ valueOf answer) ⌝ }
-{
-    *value = rules::value(answer);
-    rules::number(answer)
-}
 
 #[no_mangle]
 pub extern "C" fn routes_judge_links(
@@ -30,9 +19,9 @@ pub extern "C" fn routes_judge_links(
     costs: &[u16],
     value: &mut u16,
 ) -> u16
-    ensures { λ r. ⌜ verdict r (now (value .exit)) ≡ judgeLinks (table nodes root (now (starts .entry)) (now (ends .entry)) (now (costs .entry))) ⌝ }
+    ensures { λ r. ⌜ InNumbers (λ v. v ≡ judgeLinks (lentTable nodes root starts ends costs)) r (left value) ⌝ }
 {
-    tell(links::judge_links(nodes, root, starts, ends, costs), value)
+    plain::tell(links::judge_links(nodes, root, starts, ends, costs), value)
 }
 
 #[no_mangle]
@@ -47,9 +36,9 @@ pub extern "C" fn routes_judge_tree<'a>(
     first: &'a [u16; 256],
     value: &mut u16,
 ) -> u16
-    ensures { λ r. ⌜ verdict r (now (value .exit)) ≡ judgeTree (table nodes root (now (starts .entry)) (now (ends .entry)) (now (costs .entry))) (arrays (now (dist .entry)) (now (parent .entry)) (now (first .entry))) ⌝ }
+    ensures { λ r. ⌜ InNumbers (λ v. v ≡ judgeTree (lentTable nodes root starts ends costs) (lentTree dist parent first)) r (left value) ⌝ }
 {
-    tell(
+    plain::tell(
         fit::judge_rows(nodes, root, starts, ends, costs, dist, parent, first),
         value,
     )
@@ -67,7 +56,7 @@ pub extern "C" fn routes_build(
     first: &mut [u16; 256],
     value: &mut u16,
 ) -> u16
-    ensures { λ r. ⌜ Built (table nodes root (now (starts .entry)) (now (ends .entry)) (now (costs .entry))) (verdict r (now (value .exit))) (arrays (now (dist .exit)) (now (parent .exit)) (now (first .exit))) ⌝ }
+    ensures { λ r. ⌜ InNumbers (λ v. Built (lentTable nodes root starts ends costs) v (leftTree dist parent first)) r (left value) ⌝ }
 {
     let built = Tree::build(nodes, root, starts, ends, costs);
     let tree = built.tree;
@@ -78,7 +67,7 @@ pub extern "C" fn routes_build(
     *parent = p;
     *first = f;
     let answer = built.answer;
-    tell(answer, value)
+    plain::tell(answer, value)
 }
 
 #[no_mangle]
@@ -97,7 +86,7 @@ pub extern "C" fn routes_update(
     count: &mut usize,
     value: &mut u16,
 ) -> u16
-    ensures { λ r. ⌜ Updated (table nodes root (now (starts .entry)) (now (ends .entry)) (now (costs .entry))) (arrays (now (dist .entry)) (now (parent .entry)) (now (first .entry))) (rowsOfColumns (now (changed .entry)) (now (newcosts .entry))) (now (list .entry)) (verdict r (now (value .exit))) (arrays (now (dist .exit)) (now (parent .exit)) (now (first .exit))) (now (costs .exit)) (now (list .exit)) (now (count .exit)) ⌝ }
+    ensures { λ r. ⌜ InNumbers (λ v. Updated (lentTable nodes root starts ends costs) (lentTree dist parent first) (rowsOfColumns (lent changed) (lent newcosts)) (lent list) v (leftTree dist parent first) (left costs) (left list) (left count)) r (left value) ⌝ }
 {
     let d = *dist;
     let p = *parent;
@@ -117,7 +106,7 @@ pub extern "C" fn routes_update(
     *first = f;
     *count = updated.count;
     let answer = updated.answer;
-    tell(answer, value)
+    plain::tell(answer, value)
 }
 
 #[no_mangle]
@@ -135,7 +124,7 @@ pub extern "C" fn routes_path(
     count: &mut usize,
     value: &mut u16,
 ) -> u16
-    ensures { λ r. ⌜ Pathed (table nodes root (now (starts .entry)) (now (ends .entry)) (now (costs .entry))) (arrays (now (dist .entry)) (now (parent .entry)) (now (first .entry))) node (now (list .entry)) (verdict r (now (value .exit))) (now (list .exit)) (now (count .exit)) ⌝ }
+    ensures { λ r. ⌜ InNumbers (λ v. Pathed (lentTable nodes root starts ends costs) (lentTree dist parent first) node (lent list) v (left list) (left count)) r (left value) ⌝ }
 {
     let d = *dist;
     let p = *parent;
@@ -148,53 +137,7 @@ pub extern "C" fn routes_path(
     let told = tree.path(nodes, root, starts, ends, costs, node, list);
     *count = told.count;
     let answer = told.answer;
-    tell(answer, value)
-}
-
-// A record as other languages take it: its kind, and its numbers with 0 in the places that it doesn't have. Where there
-// is none, all of it is 0.
-struct Parts {
-    kind: u8,
-    numbers: [u16; 3],
-}
-
-fn take_apart(item: Item) -> Parts
-    ensures { λ r. ⌜ r ≡ partsOf item ⌝ }
-{
-    match item {
-        Item::Network { nodes, root } => Parts {
-            kind: 1,
-            numbers: [nodes, root, 0],
-        },
-        Item::Link { start, end, cost } => Parts {
-            kind: 2,
-            numbers: [start, end, cost],
-        },
-        Item::Change { link, cost } => Parts {
-            kind: 3,
-            numbers: [link, cost, 0],
-        },
-        Item::Apply => Parts {
-            kind: 4,
-            numbers: [0, 0, 0],
-        },
-        Item::Ask { node } => Parts {
-            kind: 5,
-            numbers: [node, 0, 0],
-        },
-        Item::End => Parts {
-            kind: 0,
-            numbers: [0, 0, 0],
-        },
-        Item::UnknownKind(_) => Parts {
-            kind: 0,
-            numbers: [0, 0, 0],
-        },
-        Item::CutShort(_) => Parts {
-            kind: 0,
-            numbers: [0, 0, 0],
-        },
-    }
+    plain::tell(answer, value)
 }
 
 #[no_mangle]
@@ -205,14 +148,7 @@ pub extern "C" fn routes_read(
     numbers: &mut [u16; 3],
     next: &mut usize,
 ) -> u16
-    ensures { λ r. ⌜ HandedBack (readAt (now (bytes .entry)) place) r (now (kind .exit)) (now (numbers .exit)) (now (next .exit)) ⌝ }
+    ensures { λ r. ⌜ HandedBack (readAt (lent bytes) place) r (left kind) (left numbers) (left next) ⌝ }
 {
-    let read = stream::read_at(bytes, place);
-    let item = read.item;
-    let told = take_apart(item);
-    let three = told.numbers;
-    *kind = told.kind;
-    *numbers = three;
-    *next = read.next;
-    stream::number(item)
+    plain::read(bytes, place, kind, numbers, next)
 }

@@ -4,7 +4,8 @@ ghost use Prim.Native.Nat.{_<_};
 ghost use lib.Dec.{eqb};
 ghost use lib.ListN.{length, getD};
 ghost use Rattle.rules.specs.Answers.{told};
-ghost use Rattle.rules.specs.Columns.{Whole, table, arrays, unreached};
+ghost use Rattle.rules.specs.Columns.{Whole, unreached};
+ghost use Rattle.rules.specs.Lent.{lent, lentTable, lentTree};
 ghost use Rattle.rules.specs.Refusals.{judgeUpdate, judgeAsked};
 ghost use Rattle.batch.specs.Rows.{rowsOfColumns};
 use rules::Answer;
@@ -23,7 +24,8 @@ pub fn judge_update<'a>(
     newcosts: &[u16],
     list: &[u16],
 ) -> Answer
-    ensures { λ r. ⌜ (told r ≡ judgeUpdate (table nodes root (now (starts .entry)) (now (ends .entry)) (now (costs .entry))) (arrays (now (dist .entry)) (now (parent .entry)) (now (first .entry))) (rowsOfColumns (now (changed .entry)) (now (newcosts .entry))) (now (list .entry))) × Whole (arrays (now (dist .entry)) (now (parent .entry)) (now (first .entry))) ⌝ }
+    ensures judged { λ r. ⌜ told r ≡ judgeUpdate (lentTable nodes root starts ends costs) (lentTree dist parent first) (rowsOfColumns (lent changed) (lent newcosts)) (lent list) ⌝ }
+    ensures whole { λ r. ⌜ Whole (lentTree dist parent first) ⌝ }
 {
     let tree = fit::judge_lent(nodes, root, starts, ends, costs, dist, parent, first);
     if rules::number(tree) != 0 {
@@ -41,7 +43,7 @@ pub fn judge_update<'a>(
 
 fn is_unreached(dist: &[u32], node: usize) -> bool
     requires { ⌜ node < length (now dist) ⌝ }
-    ensures { λ r. ⌜ r ≡ eqb (getD (now (dist .entry)) node 0) unreached ⌝ }
+    ensures { λ r. ⌜ r ≡ eqb (getD (lent dist) node 0) unreached ⌝ }
 {
     dist[node] == 16_777_215
 }
@@ -58,7 +60,8 @@ pub fn judge_asked<'a>(
     first: &'a [u16; 256],
     node: usize,
 ) -> Answer
-    ensures { λ r. ⌜ (told r ≡ judgeAsked (table nodes root (now (starts .entry)) (now (ends .entry)) (now (costs .entry))) (arrays (now (dist .entry)) (now (parent .entry)) (now (first .entry))) node) × Whole (arrays (now (dist .entry)) (now (parent .entry)) (now (first .entry))) ⌝ }
+    ensures judged { λ r. ⌜ told r ≡ judgeAsked (lentTable nodes root starts ends costs) (lentTree dist parent first) node ⌝ }
+    ensures whole { λ r. ⌜ Whole (lentTree dist parent first) ⌝ }
 {
     let answer = fit::judge_lent(nodes, root, starts, ends, costs, dist, parent, first);
     if rules::number(answer) != 0 {

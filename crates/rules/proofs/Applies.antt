@@ -14,7 +14,7 @@ use Rattle.rules.specs.Tree.{Row, Path}
 use Rattle.rules.specs.Tests.{pick, firstBelow, breaks, reached}
 use Rattle.rules.specs.Columns.{Table, Tree, netOf, rowsOf, mostNodes, mostLinks, mostRows, unreached}
 use Rattle.rules.specs.Refusals.{Verdict, accepted, refused, _then_, when, whenOne, wrongNodeCount, wrongRoot, wrongColumns, wrongEnds, wrongEndsAt, wrongOrderAt, judgeEach, judgeLinks, judgeTree, linkAt, namesNoLink, namesAgain, firstBadRow, judgeRows, judgeBatch, judgeUpdate, judgeAsked}
-use Rattle.rules.specs.Applies.{FirstOf, WrongEnds, start-no-node, end-no-node, start-is-end, Falls, OfTable, no-nodes, many-nodes, root-no-node, ends-unequal, costs-unequal, many-links, wrong-ends, wrong-order, OfTree, of-table, unfit, BadRow, no-link, again, OfUpdate, many-rows, bad-row, OfPath, no-node, no-route, Gives, none, smallest}
+use Rattle.rules.specs.Applies.{FirstOf, BadEnds, start-no-node, end-no-node, start-is-end, Falls, OfTable, no-nodes, many-nodes, root-no-node, ends-unequal, costs-unequal, many-links, wrong-ends, wrong-order, OfTree, of-table, unfit, BadRow, no-link, again, OfUpdate, many-rows, bad-row, OfPath, no-node, no-route, Gives, none, smallest}
 use Rattle.rules.specs.Jobs.{Pathed, pathed, too-short, not-pathed}
 use Rattle.rules.specs.declared.Change.{Change}
 use Rattle.rules.proofs.Logic.{First, first-of, or-cases, or-r, T-true, true-T, true-false}
@@ -200,19 +200,19 @@ decides-or a b {A} {B} d e = record { yes-so = λ q. at (or-cases a b (true-T (a
 
 -- ---- a table: 1 to 5
 
-wrong-ends-decides : (t : Table) (k : ℕ) → Decides (wrongEndsAt t k) (WrongEnds t k)
+wrong-ends-decides : (t : Table) (k : ℕ) → Decides (wrongEndsAt t k) (BadEnds t k)
 unfolding wrongEndsAt
 wrong-ends-decides t k = record { yes-so = λ e. at (by .yes-so e); so-yes = λ w. by .so-yes (back w) }
   where
     by : Decides (wrongEndsAt t k) (((t .nodes ≤ getD (t .starts) k 0) ⊎ (t .nodes ≤ getD (t .ends) k 0)) ⊎ (getD (t .starts) k 0 ≡ getD (t .ends) k 0))
     by = decides-or _ _ (decides-or _ _ (decides-le (t .nodes) (getD (t .starts) k 0)) (decides-le (t .nodes) (getD (t .ends) k 0))) (decides-eq (getD (t .starts) k 0) (getD (t .ends) k 0))
 
-    at : ((t .nodes ≤ getD (t .starts) k 0) ⊎ (t .nodes ≤ getD (t .ends) k 0)) ⊎ (getD (t .starts) k 0 ≡ getD (t .ends) k 0) → WrongEnds t k
+    at : ((t .nodes ≤ getD (t .starts) k 0) ⊎ (t .nodes ≤ getD (t .ends) k 0)) ⊎ (getD (t .starts) k 0 ≡ getD (t .ends) k 0) → BadEnds t k
     at (inl (inl l)) = start-no-node l
     at (inl (inr l)) = end-no-node l
     at (inr e) = start-is-end e
 
-    back : WrongEnds t k → ((t .nodes ≤ getD (t .starts) k 0) ⊎ (t .nodes ≤ getD (t .ends) k 0)) ⊎ (getD (t .starts) k 0 ≡ getD (t .ends) k 0)
+    back : BadEnds t k → ((t .nodes ≤ getD (t .starts) k 0) ⊎ (t .nodes ≤ getD (t .ends) k 0)) ⊎ (getD (t .starts) k 0 ≡ getD (t .ends) k 0)
     back (start-no-node l) = inl (inl l)
     back (end-no-node l) = inl (inr l)
     back (start-is-end e) = inr e
@@ -234,7 +234,7 @@ module _ (t : Table) where
 
   abbrev Asked : ℕ → ℕ → Type 0
   Asked = Either (Only 1 Counts) (Either (Only 2 (t .nodes ≤ t .root)) (Either (Only 3 Columns)
-      (Either (OnlyFirst 4 (length (t .starts)) (WrongEnds t)) (OnlyFirst 5 (length (t .starts)) (Falls t)))))
+      (Either (OnlyFirst 4 (length (t .starts)) (BadEnds t)) (OnlyFirst 5 (length (t .starts)) (Falls t)))))
 
   to-table : (m x : ℕ) → Asked m x → OfTable t m x
   to-table m x (here (only (inl e))) = no-nodes e

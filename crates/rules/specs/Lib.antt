@@ -8,5 +8,6 @@ pub mod Refusals
 pub mod Applies
 pub mod Answers
 pub mod Jobs
+pub mod Lent
 pub mod Demands
 pub mod Sums

@@ -1,6 +1,5 @@
 -- `border::routes_judge_links` meets its contract: the number and the value told are those of the job's answer. Assumes nothing.
-use mathlib.Core.Path.{_∙_}
-use Rattle.border.proofs.Verdicts.{verdict-told}
+use Rattle.rules.specs.Answers.{told}
 use borrow.Author.Needs.{needs}
 use Rattle.border.proofs.routes_judge_links.Statement.{statement}
 use Rattle.border.proofs.routes_judge_links.Tie as tie
@@ -14,7 +13,7 @@ tell-requires c κs = search needs
 returns : tie.Need-returns
 returns c =
     let job = c .before .before .judge-links in
-    verdict-told (job .result) (c .tell .ensures .0) (c .tell .ensures .1) ∙ job .ensures
+    record { verdict = told (job .result); number-is = c .tell .ensures .0; value-is = c .tell .ensures .1; outcome = job .ensures }
 
 pub routes-judge-links-spec : {M : Type 1} → statement M
 routes-judge-links-spec = tie.close (tie.spec judge-links-requires tell-requires returns)

@@ -1,5 +1,5 @@
 -- `border::routes_path` meets its contract: the number and the value told are those of the job's answer. Assumes nothing.
-use Rattle.border.proofs.Verdicts.{verdict-told}
+use Rattle.rules.specs.Answers.{told}
 use borrow.Author.Needs.{needs}
 use Rattle.border.proofs.routes_path.Statement.{statement}
 use Rattle.border.proofs.routes_path.Tie as tie
@@ -16,7 +16,7 @@ same-length c = search needs
 returns : tie.Need-returns
 returns c =
     let job = c .before .before .before .before .path in
-    rw (verdict-told (job .result .answer) (c .tell .ensures .0) (c .tell .ensures .1)) (job .ensures)
+    record { verdict = told (job .result .answer); number-is = c .tell .ensures .0; value-is = c .tell .ensures .1; outcome = job .ensures }
 
 pub routes-path-spec : {M : Type 1} → statement M
 routes-path-spec = tie.close (tie.spec path-requires tell-requires same-length returns)

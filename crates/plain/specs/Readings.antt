@@ -6,7 +6,7 @@ use lib.ListN.{getD}
 use Rattle.stream.specs.Records.{Told, given, ended, refused, told, numberOf}
 use Rattle.stream.specs.declared.Item.{Item}
 use Rattle.stream.specs.declared.Read.{Read}
-use Rattle.border.specs.declared.Parts.{Parts}
+use Rattle.plain.specs.declared.Parts.{Parts}
 
 -- three places: the numbers of a body, and 0 in the places that it doesn't have
 abbrev pub three : List ℕ → List ℕ

@@ -1,9 +1,9 @@
--- `border::take_apart` meets its contract: each case of the match is a case of `partsOf`. Assumes nothing.
+-- `plain::take_apart` meets its contract: each case of the match is a case of `partsOf`. Assumes nothing.
 use mathlib.Core.Path.{sym, ap}
 use borrow.Author.Needs.{needs}
-use Rattle.border.specs.Readings.{partsOf}
-use Rattle.border.proofs.take_apart.Statement.{statement}
-use Rattle.border.proofs.take_apart.Tie as tie
+use Rattle.plain.specs.Readings.{partsOf}
+use Rattle.plain.proofs.take_apart.Statement.{statement}
+use Rattle.plain.proofs.take_apart.Tie as tie
 
 enum-known-item : tie.Need-enum-known-item
 enum-known-item c = search needs

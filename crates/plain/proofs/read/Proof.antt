@@ -1,8 +1,8 @@
--- `border::routes_read` meets its contract: what is handed back is what the reader gives. Assumes nothing.
+-- `plain::read` meets its contract: what is handed back is what the reader gives. Assumes nothing.
 use borrow.Author.Needs.{needs}
-use Rattle.border.proofs.Readings.{hands-back}
-use Rattle.border.proofs.routes_read.Statement.{statement}
-use Rattle.border.proofs.routes_read.Tie as tie
+use Rattle.plain.proofs.Readings.{hands-back}
+use Rattle.plain.proofs.read.Statement.{statement}
+use Rattle.plain.proofs.read.Tie as tie
 
 read-at-requires : tie.Need-read-at-requires
 read-at-requires c κs = search needs
@@ -17,6 +17,6 @@ returns : tie.Need-returns
 returns c =
     hands-back (c .before .before .before .read-at .ensures) (c .before .before .take-apart .ensures) (c .number .ensures)
 
-pub routes-read-spec : {M : Type 1} → statement M
-routes-read-spec =
+pub read-spec : {M : Type 1} → statement M
+read-spec =
     tie.close (tie.spec read-at-requires take-apart-requires number-requires returns)

@@ -3,8 +3,8 @@ use mathlib.Core.Path.{_≡_, _∙_, ap}
 use Prim.Native.Nat.{ℕ}
 use Rattle.stream.specs.Records.{numberOf}
 use Rattle.stream.specs.declared.Read.{Read}
-use Rattle.border.specs.declared.Parts.{Parts}
-use Rattle.border.specs.Readings.{HandedBack, partsOf}
+use Rattle.plain.specs.declared.Parts.{Parts}
+use Rattle.plain.specs.Readings.{HandedBack, partsOf}
 
 pub hands-back : {read due : Read} {parts : Parts} {number : ℕ} → read ≡ due → parts ≡ partsOf (read .item)
     → number ≡ numberOf (read .item) → HandedBack due number (parts .kind) (parts .numbers) (read .next)

@@ -1,2 +1,3 @@
+-- What other languages take.
 pub mod Verdicts
 pub mod Readings
