@@ -1,6 +1,7 @@
 // The arrays of a whole tree: grown from the root, or regrown from what still stands of an old tree after costs have
-// changed. Both are seeds of one loop that settles distances, and both hang the nodes by one choice of parents.
-// The loop leaves guesses in `first`; after a change the old first links are the guesses of the nodes that don't move.
+// changed. Both are seeds of one loop that settles distances and finds links. What is found is a built tree's parents;
+// after a change a node whose old link is tight keeps that. The loop leaves guesses in `first`; after a change the old
+// first links are the guesses of the nodes that don't move.
 ghost use Rattle.rules.specs.Columns.{Proper, table, arrays, Whole};
 ghost use Rattle.grow.specs.Grown.{Grown, Old, Regrown};
 
@@ -39,6 +40,7 @@ pub fn grow(
         dist,
         &mut keys,
         &mut mins,
+        parent,
         first,
     );
     hang::hang(nodes, root, starts, ends, costs, dist, parent, first);
@@ -73,6 +75,7 @@ pub fn regrow(
         &mut keys,
         &mut mins,
     );
+    let mut found = [NO_LINK; 256];
     settle::offer_all(
         nodes,
         root,
@@ -82,7 +85,7 @@ pub fn regrow(
         dist,
         &mut keys,
         &mut mins,
-        first,
+        &mut found,
     );
     settle::settle(
         nodes,
@@ -94,7 +97,18 @@ pub fn regrow(
         dist,
         &mut keys,
         &mut mins,
+        &mut found,
         first,
     );
-    hang::hang(nodes, root, starts, ends, costs, dist, parent, first);
+    hang::rehang(
+        nodes,
+        root,
+        starts,
+        ends,
+        costs,
+        dist,
+        &found,
+        parent,
+        first,
+    );
 }

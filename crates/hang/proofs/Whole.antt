@@ -1,19 +1,19 @@
--- Distances that are least sums, parents as the two passes choose them and first links by those parents make the next
+-- Distances that are least sums, parents that are kept or found and first links by those parents make the next
 -- tree. Assumes nothing.
 use mathlib.Core.Path.{_≡_, refl, sym, _∙_}
 use mathlib.Core.Logic.{_≢_}
 use mathlib.Core.List.{List}
 use Prim.Native.Nat.{ℕ, _≤_, _<_}
 use native.Mathlib.Omega.{arith}
-use native.Mathlib.Decide.{ℕ-discrete}
-use lib.ListN.{length, getD}
+use native.Mathlib.Decide.{ℕ-discrete, decLt}
+use lib.ListN.{length, getD, replicate, length-replicate, getD-replicate, List·getD-eq-default}
 use Rattle.rules.specs.Net.{Net}
 use Rattle.rules.specs.Tree.{Rows, Tight, Hung, Row, root, hung, bare}
 use Rattle.rules.specs.Keep.{Choice}
 use Rattle.rules.specs.Columns.{Table, netOf, rowsOf, arrays, mostNodes, unreached, noLink}
 use Rattle.rules.proofs.Judged.{legal}
 use Rattle.hang.specs.Ready.{Ready, Hanged}
-use Rattle.hang.specs.Passes.{Given, Tightly, Kept, keeps, drops, Smallest, finds, lacks, Filled, stays, takes, AllKept, AllFilled, Has, Rising, FirstOf, Firsts}
+use Rattle.hang.specs.Passes.{Given, Tightly, Kept, keeps, takes, Smallest, finds, lacks, AllKept, AllSmallest, Has, Rising, FirstOf, Firsts}
 use Rattle.hang.proofs.Distances.{some-tight, root-not-tight, mark-not-tight, offered}
 use Rattle.hang.proofs.Parents.{none-not-tight}
 use Rattle.hang.proofs.Firsts.{first-hangs, first-near, first-far, first-one}
@@ -30,39 +30,9 @@ ready-given a =
       dist-long = a .dist-long;
     }
 
--- a node stays on its old link, goes to the smallest tight one, or is bare, since no link is tight
-pub data Picked (Tight : ℕ → Type 0) (old new : ℕ) : Type 0 where
-  on-old : Tight old → new ≡ old → Picked Tight old new
-  on-smallest : ¬ (Tight old) → Tight new → ((j : ℕ) → Tight j → new ≤ j) → Picked Tight old new
-  on-none : new ≡ noLink → ((j : ℕ) → ¬ (Tight j)) → Picked Tight old new
-
-picked : {Tight : ℕ → Type 0} {old mid new : ℕ} → ¬ (Tight noLink) → Kept Tight old mid → Filled (Smallest Tight 0) mid new → Picked Tight old new
-picked z (keeps a e) (stays n q) = on-old a (q ∙ e)
-picked z (keeps a e) (takes o f) = absurd (z (rw (← o, e) a))
-picked z (drops f e) (stays n q) = absurd (n e)
-picked z (drops f e) (takes o (finds l b s)) = on-smallest f b (λ j a. s j (omega arith) a)
-picked z (drops f e) (takes o (lacks q none)) = on-none q (λ j a. none j (omega arith) a)
-
--- ---- parents
-
-pub record AllPicked (t : Table) (dist old parent : List ℕ) : Type 0 where
-  pub long : length parent ≡ mostNodes
-  pub each : (v : ℕ) → Picked (Tightly (t .starts) (t .ends) (t .costs) dist v) (getD old v noLink) (getD parent v noLink)
-
-module _ {t : Table} {dist old first₀ : List ℕ} (a : Ready t dist old first₀) where
-  pub all-picked : {mid parent : List ℕ} → AllKept (t .starts) (t .ends) (t .costs) dist old mid
-      → AllFilled (t .starts) (t .ends) (t .costs) dist mid parent → AllPicked t dist old parent
-  all-picked k f = record { long = f .long; each = λ v. picked (none-not-tight (ready-given a)) (k .each v) (f .each v) }
-
-module _ {t : Table} {dist old first₀ : List ℕ} (a : Ready t dist old first₀) {parent : List ℕ} (p : AllPicked t dist old parent) (first : List ℕ) where
-  abbrev N : Net
-  N = netOf t
-
-  abbrev r : Rows
-  r = rowsOf (arrays dist parent first)
-
-  -- a link is tight by the columns exactly where it is by the rules
-  tight-by-rules : {v k : ℕ} → Tightly (t .starts) (t .ends) (t .costs) dist v k → Tight N r k v
+-- a link is tight by the columns exactly where it is by the rules
+module _ (t : Table) (dist parent first : List ℕ) {v k : ℕ} where
+  pub tight-by-rules : Tightly (t .starts) (t .ends) (t .costs) dist v k → Tight (netOf t) (rowsOf (arrays dist parent first)) k v
   tight-by-rules b =
       record {
         usable = record { is-link = b .is-link; costs = omega (arith, b .exact .usable); open-is = refl };
@@ -71,7 +41,7 @@ module _ {t : Table} {dist old first₀ : List ℕ} (a : Ready t dist old first�
         sum = b .exact .sum;
       }
 
-  tight-by-columns : {v k : ℕ} → Tight N r k v → Tightly (t .starts) (t .ends) (t .costs) dist v k
+  pub tight-by-columns : Tight (netOf t) (rowsOf (arrays dist parent first)) k v → Tightly (t .starts) (t .ends) (t .costs) dist v k
   tight-by-columns b =
       record {
         is-link = b .usable .is-link;
@@ -79,12 +49,56 @@ module _ {t : Table} {dist old first₀ : List ℕ} (a : Ready t dist old first�
         exact = record { reached = b .from-reached; sum = b .sum; usable = omega (arith, b .usable .costs) };
       }
 
+-- a node stays on its old link, goes to the smallest tight one, or is bare, since no link is tight
+pub data Picked (Tight : ℕ → Type 0) (old new : ℕ) : Type 0 where
+  on-old : Tight old → new ≡ old → Picked Tight old new
+  on-smallest : ¬ (Tight old) → Tight new → ((j : ℕ) → Tight j → new ≤ j) → Picked Tight old new
+  on-none : new ≡ noLink → ((j : ℕ) → ¬ (Tight j)) → Picked Tight old new
+
+picked-smallest : {Tight : ℕ → Type 0} {old new : ℕ} → ¬ (Tight old) → Smallest Tight new → Picked Tight old new
+picked-smallest f (finds a s) = on-smallest f a s
+picked-smallest f (lacks e none) = on-none e none
+
+picked : {Tight : ℕ → Type 0} {old found new : ℕ} → Kept Tight old found new → (¬ (Tight old) → Smallest Tight found) → Picked Tight old new
+picked (keeps a e) s = on-old a e
+picked (takes f e) s = rw e (picked-smallest f (s f))
+
+-- ---- parents
+
+pub record AllPicked (t : Table) (dist old parent : List ℕ) : Type 0 where
+  pub long : length parent ≡ mostNodes
+  pub each : (v : ℕ) → Picked (Tightly (t .starts) (t .ends) (t .costs) dist v) (getD old v noLink) (getD parent v noLink)
+
+pub all-picked : {t : Table} {dist old found parent : List ℕ} → AllKept (t .starts) (t .ends) (t .costs) dist found old parent
+    → AllSmallest (t .starts) (t .ends) (t .costs) dist (λ v. ¬ (Tightly (t .starts) (t .ends) (t .costs) dist v (getD old v noLink))) found
+    → AllPicked t dist old parent
+all-picked k s = record { long = k .long; each = λ v. picked (k .each v) (s .each v) }
+
+-- the same number everywhere
+filled : (n a v : ℕ) → getD (replicate n a) v a ≡ a
+filled n a v = at (decLt v n)
+  where
+    at : Dec (v < n) → getD (replicate n a) v a ≡ a
+    at (yes l) = getD-replicate n v a a l
+    at (no l) = List·getD-eq-default (replicate n a) a (omega (arith, length-replicate n a))
+
+pub all-fresh : {t : Table} {dist parent first : List ℕ} → Ready t dist parent first → AllSmallest (t .starts) (t .ends) (t .costs) dist (λ v. Unit {0}) parent
+    → AllPicked t dist (replicate mostNodes noLink) parent
+all-fresh a s = record { long = s .long; each = λ v. rw (filled mostNodes noLink v) (picked-smallest (none-not-tight (ready-given a)) (s .each v tt)) }
+
+module _ {t : Table} {dist parent₀ first₀ : List ℕ} (a : Ready t dist parent₀ first₀) {old parent : List ℕ} (p : AllPicked t dist old parent) (first : List ℕ) where
+  abbrev N : Net
+  N = netOf t
+
+  abbrev r : Rows
+  r = rowsOf (arrays dist parent first)
+
   tight-link : {v : ℕ} → Has parent v → Tight N r (getD parent v noLink) v
   tight-link {v} h = at (p .each v)
     where
       at : Picked (Tightly (t .starts) (t .ends) (t .costs) dist v) (getD old v noLink) (getD parent v noLink) → Tight N r (getD parent v noLink) v
-      at (on-old b e) = rw e (tight-by-rules b)
-      at (on-smallest f b s) = tight-by-rules b
+      at (on-old b e) = rw e (tight-by-rules t dist parent first b)
+      at (on-smallest f b s) = tight-by-rules t dist parent first b
       at (on-none e none) = absurd (h .link e)
 
   -- a node for which a link is tight has one
@@ -94,7 +108,7 @@ module _ {t : Table} {dist old first₀ : List ℕ} (a : Ready t dist old first�
       at : getD parent v noLink ≡ noLink → Picked (Tightly (t .starts) (t .ends) (t .costs) dist v) (getD old v noLink) (getD parent v noLink) → ⊥
       at e (on-old c q) = none-not-tight (ready-given a) (rw (sym q ∙ e) at c)
       at e (on-smallest f c s) = none-not-tight (ready-given a) (rw e at c)
-      at e (on-none q none) = none k (tight-by-columns b)
+      at e (on-none q none) = none k (tight-by-columns t dist parent first b)
 
   -- and one for which none is tight has none
   bare-none : {v : ℕ} → ((k : ℕ) → Tight N r k v → ⊥) → getD parent v noLink ≡ noLink
@@ -162,9 +176,9 @@ module _ {t : Table} {dist old first₀ : List ℕ} (a : Ready t dist old first�
     choice v h = at (p .each v)
       where
         at : Picked (Tightly (t .starts) (t .ends) (t .costs) dist v) (getD old v noLink) (getD parent v noLink) → Choice N r (λ u. getD old u noLink) v
-        at (on-old b e) = Choice.keeps (tight-by-rules b) e
-        at (on-smallest g b s) = Choice.takes (λ c. g (tight-by-columns c)) (record { tight = tight-by-rules b; smallest = λ j c. s j (tight-by-columns c) })
-        at (on-none e none) = absurd (none (getD parent v noLink) (tight-by-columns (h .tight)))
+        at (on-old b e) = Choice.keeps (tight-by-rules t dist parent first b) e
+        at (on-smallest g b s) = Choice.takes (λ c. g (tight-by-columns t dist parent first c)) (record { tight = tight-by-rules t dist parent first b; smallest = λ j c. s j (tight-by-columns t dist parent first c) })
+        at (on-none e none) = absurd (none (getD parent v noLink) (tight-by-columns t dist parent first (h .tight)))
 
     pub hanged : Hanged t dist old parent first
     hanged = record { parent-long = p .long; first-long = f .known .long; next = record { fits = record { row = row }; choice = choice } }

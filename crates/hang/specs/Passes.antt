@@ -35,40 +35,25 @@ pub record Tightly (starts ends costs dist : List ℕ) (v k : ℕ) : Type 0 wher
   pub ends-at : getD ends k 0 ≡ v
   pub exact : Exact (getD dist (getD starts k 0) unreached) (getD costs k 0) (getD dist v unreached)
 
--- a node keeps its old link where that is tight, and else has none
-pub data Kept (Tight : ℕ → Type 0) (old new : ℕ) : Type 0 where
-  keeps : Tight old → new ≡ old → Kept Tight old new
-  drops : ¬ (Tight old) → new ≡ noLink → Kept Tight old new
+-- a node keeps its old link where that is tight, and else takes the one found
+pub data Kept (Tight : ℕ → Type 0) (old found new : ℕ) : Type 0 where
+  keeps : Tight old → new ≡ old → Kept Tight old found new
+  takes : ¬ (Tight old) → new ≡ found → Kept Tight old found new
 
--- of the links from k on, the smallest that is tight; none where none is
-pub data Smallest (Tight : ℕ → Type 0) (k found : ℕ) : Type 0 where
-  finds : k ≤ found → Tight found → ((j : ℕ) → k ≤ j → Tight j → found ≤ j) → Smallest Tight k found
-  lacks : found ≡ noLink → ((j : ℕ) → k ≤ j → ¬ (Tight j)) → Smallest Tight k found
+-- the smallest link that is tight; none where none is
+pub data Smallest (Tight : ℕ → Type 0) (found : ℕ) : Type 0 where
+  finds : Tight found → ((j : ℕ) → Tight j → found ≤ j) → Smallest Tight found
+  lacks : found ≡ noLink → ((j : ℕ) → ¬ (Tight j)) → Smallest Tight found
 
--- how far from its node's place a link's number is written: at it where the link is tight, else past all nodes
-pub data Aside (tight : Type 0) (far : ℕ) : Type 0 where
-  not-aside : tight → far ≡ 0 → Aside tight far
-  aside : ¬ tight → far ≡ mostNodes → Aside tight far
-
--- a node that has a link stays on it, and one that has none takes what was found
-pub data Filled (Found : ℕ → Type 0) (old new : ℕ) : Type 0 where
-  stays : old ≢ noLink → new ≡ old → Filled Found old new
-  takes : old ≡ noLink → Found new → Filled Found old new
-
--- the same of every node
+-- the same of every node, or of every node that asks
 module _ (starts ends costs dist : List ℕ) where
-  pub record AllKept (old new : List ℕ) : Type 0 where
+  pub record AllKept (found old new : List ℕ) : Type 0 where
     pub long : length new ≡ mostNodes
-    pub each : (v : ℕ) → Kept (Tightly starts ends costs dist v) (getD old v noLink) (getD new v noLink)
+    pub each : (v : ℕ) → Kept (Tightly starts ends costs dist v) (getD old v noLink) (getD found v noLink) (getD new v noLink)
 
-  -- what the links from k on give each node that has no link; past the nodes, as many places hold anything
-  pub record AllFound (k : ℕ) (old found : List ℕ) : Type 0 where
-    pub long : length found ≡ mostNodes + mostNodes
-    pub each : (v : ℕ) → v < mostNodes → getD old v noLink ≡ noLink → Smallest (Tightly starts ends costs dist v) k (getD found v noLink)
-
-  pub record AllFilled (old new : List ℕ) : Type 0 where
-    pub long : length new ≡ mostNodes
-    pub each : (v : ℕ) → Filled (Smallest (Tightly starts ends costs dist v) 0) (getD old v noLink) (getD new v noLink)
+  pub record AllSmallest (asks : ℕ → Type 0) (found : List ℕ) : Type 0 where
+    pub long : length found ≡ mostNodes
+    pub each : (v : ℕ) → asks v → Smallest (Tightly starts ends costs dist v) (getD found v noLink)
 
 -- ---- first links
 

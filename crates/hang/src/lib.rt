@@ -5,7 +5,7 @@ ghost use Prim.Native.Nat.{_≤_, _<_};
 ghost use lib.ListN.{length, getD, replicate};
 ghost use Rattle.rules.specs.Columns.{mostNodes, noLink, unreached, table};
 ghost use Rattle.hang.specs.Ready.{Ready, Hanged};
-ghost use Rattle.hang.specs.Passes.{Tells, Given, Exact, Tightly, Kept, AllKept, Aside, AllFound, Filled, AllFilled, Has, Rising, Placed, FirstBy, Standing, FirstOf, Known, Spread, Firsts};
+ghost use Rattle.hang.specs.Passes.{Tells, Given, Exact, Tightly, Kept, AllKept, AllSmallest, Has, Rising, Placed, FirstBy, Standing, FirstOf, Known, Spread, Firsts};
 
 const NODES: usize = 256;
 
@@ -43,105 +43,48 @@ fn tight_into(dist: &[u32; 256], start: u16, cost: u16, v: usize) -> bool
     tight(dist[from], cost as u32, dist[v])
 }
 
-// A node's old link where that is tight, else none. The old link may be any number.
-fn kept(starts: &[u16], ends: &[u16], costs: &[u16], dist: &[u32; 256], v: usize, old: u16) -> u16
+// A node's old link where that is tight, else what was found. The old link may be any number.
+fn kept(
+    starts: &[u16],
+    ends: &[u16],
+    costs: &[u16],
+    dist: &[u32; 256],
+    v: usize,
+    old: u16,
+    found: u16,
+) -> u16
     requires { ⌜ Given (now starts) (now ends) (now costs) (now dist) × (v < mostNodes) ⌝ }
-    ensures { λ r. ⌜ Kept (Tightly (now (starts .entry)) (now (ends .entry)) (now (costs .entry)) (now (dist .entry)) v) old r ⌝ }
+    ensures { λ r. ⌜ Kept (Tightly (now (starts .entry)) (now (ends .entry)) (now (costs .entry)) (now (dist .entry)) v) old found r ⌝ }
 {
     let k = old as usize;
     if starts.len() <= k {
-        return NO_LINK;
+        return found;
     }
     if ends[k] as usize != v {
-        return NO_LINK;
+        return found;
     }
     if tight_into(dist, starts[k], costs[k], v) {
         old
     } else {
-        NO_LINK
+        found
     }
 }
 
-// Every node keeps its link where that is tight.
+// Every node keeps its link where that is tight, and else takes what was found.
 fn keep_tight(
     starts: &[u16],
     ends: &[u16],
     costs: &[u16],
     dist: &[u32; 256],
+    found: &[u16; 256],
     parent: &mut [u16; 256],
 )
-    requires { ⌜ Given (now starts) (now ends) (now costs) (now dist) × (length (now parent) ≡ mostNodes) ⌝ }
-    ensures { λ _. ⌜ AllKept (now (starts .entry)) (now (ends .entry)) (now (costs .entry)) (now (dist .entry)) (now (parent .entry)) (now (parent .exit)) ⌝ }
+    requires { ⌜ Given (now starts) (now ends) (now costs) (now dist) × (length (now parent) ≡ mostNodes) × (length (now found) ≡ mostNodes) ⌝ }
+    ensures { λ _. ⌜ AllKept (now (starts .entry)) (now (ends .entry)) (now (costs .entry)) (now (dist .entry)) (now (found .entry)) (now (parent .entry)) (now (parent .exit)) ⌝ }
 {
     let mut v: usize = 0;
     while v < NODES {
-        parent[v] = kept(starts, ends, costs, dist, v, parent[v]);
-        v += 1;
-    }
-}
-
-// How far from the place of node `v` a link's number is written: at it where the link is tight, else 256 places on,
-// where no node has its place. Which links are tight can't be foretold, and a branch guessed wrong costs more than the
-// rest of a link; this number is added without one, where a choice between two places would compile to a branch.
-fn aside(dist: &[u32; 256], start: u16, cost: u16, v: usize) -> usize
-    requires { ⌜ (length (now dist) ≡ mostNodes) × (start < mostNodes) × (v < mostNodes) ⌝ }
-    ensures { λ r. ⌜ Aside (Exact (getD (now (dist .entry)) start unreached) cost (getD (now (dist .entry)) v unreached)) r ⌝ }
-{
-    if tight_into(dist, start, cost, v) {
-        0
-    } else {
-        NODES
-    }
-}
-
-// For every node without a link, the tight one of smallest number. Links are asked from the last to the first, and each
-// tight one is written over those before: the last written is the smallest. Whether a node asks isn't changed by the
-// pass: in a build nearly all do, in an update nearly none, so that branch is mostly guessed right.
-fn find_smallest(
-    starts: &[u16],
-    ends: &[u16],
-    costs: &[u16],
-    dist: &[u32; 256],
-    parent: &[u16; 256],
-) -> [u16; 512]
-    requires { ⌜ Given (now starts) (now ends) (now costs) (now dist) × (length (now parent) ≡ mostNodes) ⌝ }
-    ensures { λ r. ⌜ AllFound (now (starts .entry)) (now (ends .entry)) (now (costs .entry)) (now (dist .entry)) 0 (now (parent .entry)) r ⌝ }
-{
-    let mut found = [NO_LINK; 512];
-    let mut k = starts.len();
-    while 0 < k {
-        k -= 1;
-        let v = ends[k] as usize;
-        if parent[v] == NO_LINK {
-            let place = v + aside(dist, starts[k], costs[k], v);
-            found[place] = k as u16;
-        }
-    }
-    found
-}
-
-// A node stays on the link that it has; one that has none takes what was found.
-fn or_found(old: u16, found: u16) -> u16
-    ensures { λ r. ⌜ Filled (λ x. x ≡ found) old r ⌝ }
-{
-    if old == NO_LINK { found } else { old }
-}
-
-// Every node without a link takes the tight one of smallest number.
-fn take_smallest(
-    starts: &[u16],
-    ends: &[u16],
-    costs: &[u16],
-    dist: &[u32; 256],
-    parent: &mut [u16; 256],
-)
-    requires { ⌜ Given (now starts) (now ends) (now costs) (now dist) × (length (now parent) ≡ mostNodes) ⌝ }
-    ensures { λ _. ⌜ AllFilled (now (starts .entry)) (now (ends .entry)) (now (costs .entry)) (now (dist .entry)) (now (parent .entry)) (now (parent .exit)) ⌝ }
-{
-    let found = find_smallest(starts, ends, costs, dist, parent);
-    let mut v: usize = 0;
-    while v < NODES {
-        parent[v] = or_found(parent[v], found[v]);
+        parent[v] = kept(starts, ends, costs, dist, v, parent[v], found[v]);
         v += 1;
     }
 }
@@ -297,8 +240,8 @@ fn renew_firsts(
     first_links(nodes, root, starts, dist, parent, first);
 }
 
-// Parents and first links for distances that are least sums. `parent` comes in with each node's old link, or with any
-// number that is no link, as 65,535; `first` with any numbers, at best with guesses.
+// First links for distances that are least sums and parents that are the smallest tight links. `first` comes in with any
+// numbers, at best with guesses.
 pub fn hang(
     nodes: usize,
     root: usize,
@@ -306,13 +249,31 @@ pub fn hang(
     ends: &[u16],
     costs: &[u16],
     dist: &[u32; 256],
+    parent: &[u16; 256],
+    first: &mut [u16; 256],
+)
+    requires { ⌜ Ready (table nodes root (now starts) (now ends) (now costs)) (now dist) (now parent) (now first) × AllSmallest (now starts) (now ends) (now costs) (now dist) (λ v. Unit {0}) (now parent) ⌝ }
+    ensures { λ _. ⌜ Hanged (table nodes root (now (starts .entry)) (now (ends .entry)) (now (costs .entry))) (now (dist .entry)) (replicate mostNodes noLink) (now (parent .entry)) (now (first .exit)) ⌝ }
+{
+    renew_firsts(nodes, root, starts, dist, parent, first);
+}
+
+// The same where `parent` comes in with each node's old link, or with any number that is no link: a node whose old link is
+// tight keeps it, and any other takes the one found, which is its smallest tight link.
+pub fn rehang(
+    nodes: usize,
+    root: usize,
+    starts: &[u16],
+    ends: &[u16],
+    costs: &[u16],
+    dist: &[u32; 256],
+    found: &[u16; 256],
     parent: &mut [u16; 256],
     first: &mut [u16; 256],
 )
-    requires { ⌜ Ready (table nodes root (now starts) (now ends) (now costs)) (now dist) (now parent) (now first) ⌝ }
+    requires { ⌜ Ready (table nodes root (now starts) (now ends) (now costs)) (now dist) (now parent) (now first) × AllSmallest (now starts) (now ends) (now costs) (now dist) (λ v. ¬ (Tightly (now starts) (now ends) (now costs) (now dist) v (getD (now parent) v noLink))) (now found) ⌝ }
     ensures { λ _. ⌜ Hanged (table nodes root (now (starts .entry)) (now (ends .entry)) (now (costs .entry))) (now (dist .entry)) (now (parent .entry)) (now (parent .exit)) (now (first .exit)) ⌝ }
 {
-    keep_tight(starts, ends, costs, dist, parent);
-    take_smallest(starts, ends, costs, dist, parent);
+    keep_tight(starts, ends, costs, dist, found, parent);
     renew_firsts(nodes, root, starts, dist, parent, first);
 }

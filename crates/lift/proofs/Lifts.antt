@@ -14,7 +14,8 @@ use Rattle.rules.proofs.Logic.{by-size, count-lt}
 use Rattle.queue.specs.Queue.{empty, Least, Rekeyed}
 use Rattle.settle.specs.Afoot.{distAt, keyAt, Keyed, idle, Lined, Within}
 use Rattle.lift.specs.Loose as loose
-use Rattle.lift.specs.Loose.{parentAt, Carries, Standing, Hangs, AllStand, StandBut, Lifted, reachedCount}
+use Rattle.settle.specs.Finding.{Carries}
+use Rattle.lift.specs.Loose.{parentAt, Standing, Hangs, AllStand, StandBut, Lifted, reachedCount}
 use Rattle.settle.proofs.Rounds.{Chosen, none-waits}
 
 -- ---- a node goes to unreached
@@ -118,8 +119,17 @@ module _ {t : Table} {parent dist keys mins : List ℕ} (h : AllStand t parent d
           let walk = rw (c .ends-at) at (along k usable (w .walk)) in
           record { sum = w .sum + netOf t .cost k; walk = walk; within = omega (arith, w .within, c .offers .enough) }
 
-  all-lifted : Lifted t dist keys mins
-  all-lifted = record { begun = record { lined = h .lined; root-zero = h .root-zero; walks = walks }; none-waits = none }
+  stays : (v : ℕ) → distAt dist v < unreached → v ≢ t .root → Carries t dist (parentAt parent v) v
+  stays v near n = at (h .standing v tt)
+    where
+      at : Standing t parent dist keys v → Carries t dist (parentAt parent v) v
+      at (loose.bare e) = absurd (omega arith)
+      at (loose.root e) = absurd (n e)
+      at (loose.waits k) = absurd (k (none v))
+      at (loose.carried c) = c
 
-pub lifted : {t : Table} {parent dist keys mins : List ℕ} {key : ℕ} → Lifting t parent dist keys mins key → key ≡ empty → Lifted t dist keys mins
+  all-lifted : Lifted t parent dist keys mins
+  all-lifted = record { begun = record { lined = h .lined; root-zero = h .root-zero; walks = walks }; carried = stays; none-waits = none }
+
+pub lifted : {t : Table} {parent dist keys mins : List ℕ} {key : ℕ} → Lifting t parent dist keys mins key → key ≡ empty → Lifted t parent dist keys mins
 lifted h e = all-lifted (h .stands) (none-waits (h .stands .lined) (h .least) e)

@@ -16,7 +16,8 @@ use Rattle.rules.proofs.Logic.{true-false, getD-any}
 use Rattle.queue.specs.Queue.{empty, Rekeyed}
 use Rattle.settle.specs.Afoot.{distAt, keyAt, keyOf, Keyed, idle, waits, Lined, FirstOf}
 use Rattle.lift.specs.Loose as loose
-use Rattle.lift.specs.Loose.{parentAt, Says, Marked, Offers, Carries, Standing, Rooted, Loose, Hangs, AllStand, StandBut, Ready, Noted}
+use Rattle.settle.specs.Finding.{Offers, Carries}
+use Rattle.lift.specs.Loose.{parentAt, Says, Marked, Standing, Rooted, Loose, Hangs, AllStand, StandBut, Ready, Noted}
 use Rattle.settle.proofs.Offers.{inside, start-is-node, end-is-node}
 use Rattle.settle.proofs.Rounds.{starts-rise}
 

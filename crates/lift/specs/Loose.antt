@@ -11,6 +11,7 @@ use Rattle.rules.specs.Keep.{count}
 use Rattle.rules.specs.Columns.{Table, netOf, mostNodes, unreached, noLink}
 use Rattle.queue.specs.Queue.{empty}
 use Rattle.settle.specs.Afoot.{distAt, keyAt, Lined, Begun}
+use Rattle.settle.specs.Finding.{Carries}
 
 -- node v's parent link; there is none where there is no such node
 abbrev pub parentAt : List ℕ → ℕ → ℕ
@@ -25,18 +26,6 @@ pub data Says (P : Type 0) : Bool → Type 0 where
 pub record Marked (dist : List ℕ) : Type 0 where
   pub long : length dist ≡ mostNodes
   pub most : (v : ℕ) → distAt dist v ≤ unreached
-
--- a link of this cost from a node at distance `from` offers no more than `to`
-pub record Offers (from cost to : ℕ) : Type 0 where
-  pub reached : from < unreached
-  pub enough : from + cost ≤ to
-  pub costs : 0 < cost
-
--- link k carries node v: it is usable and leads to v from a reached node, whose distance plus its cost is at most v's
-pub record Carries (t : Table) (dist : List ℕ) (k v : ℕ) : Type 0 where
-  pub is-link : k < length (t .starts)
-  pub ends-at : netOf t .end k ≡ v
-  pub offers : Offers (distAt dist (netOf t .start k)) (netOf t .cost k) (distAt dist v)
 
 -- node v needs nothing more, or waits
 pub data Standing (t : Table) (parent dist keys : List ℕ) (v : ℕ) : Type 0 where
@@ -77,9 +66,10 @@ pub record Ready (t : Table) (dist keys mins : List ℕ) : Type 0 where
   pub root-zero : distAt dist (t .root) ≡ 0
   pub none-waits : (v : ℕ) → keyAt keys v ≡ empty
 
--- after: no distance is too small, and nothing waits
-pub record Lifted (t : Table) (dist keys mins : List ℕ) : Type 0 where
+-- after: no distance is too small, nothing waits, and each reached node but the root is carried
+pub record Lifted (t : Table) (parent dist keys mins : List ℕ) : Type 0 where
   pub begun : Begun t dist keys mins
+  pub carried : (v : ℕ) → distAt dist v < unreached → v ≢ t .root → Carries t dist (parentAt parent v) v
   pub none-waits : (v : ℕ) → keyAt keys v ≡ empty
 
 -- node v waits if it is reached, and nothing else is changed

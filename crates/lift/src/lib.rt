@@ -3,7 +3,8 @@
 ghost use Prim.Native.Nat.{_≤_, _<_};
 ghost use Rattle.rules.specs.Columns.{Proper, table, mostNodes, unreached};
 ghost use Rattle.settle.specs.Afoot.{Lined, FirstOf, Firsts};
-ghost use Rattle.lift.specs.Loose.{Says, Marked, Offers, Carries, Rooted, AllStand, StandBut, Ready, Lifted, Noted};
+ghost use Rattle.settle.specs.Finding.{Offers, Carries};
+ghost use Rattle.lift.specs.Loose.{Says, Marked, Rooted, AllStand, StandBut, Ready, Lifted, Noted};
 
 // The distance of an unreached node.
 const UNREACHED: u32 = 16_777_215;
@@ -130,7 +131,7 @@ fn lift_noted(
     mins: &mut [u32; 16],
 )
     requires { ⌜ Proper (table nodes root (now starts) (now ends) (now costs)) × Firsts (now starts) (now at) × Rooted (table nodes root (now starts) (now ends) (now costs)) (now parent) × AllStand (table nodes root (now starts) (now ends) (now costs)) (now parent) (now dist) (now keys) (now mins) ⌝ }
-    ensures { λ _. ⌜ Lifted (table nodes root (now (starts .entry)) (now (ends .entry)) (now (costs .entry))) (now (dist .exit)) (now (keys .exit)) (now (mins .exit)) ⌝ }
+    ensures { λ _. ⌜ Lifted (table nodes root (now (starts .entry)) (now (ends .entry)) (now (costs .entry))) (now (parent .entry)) (now (dist .exit)) (now (keys .exit)) (now (mins .exit)) ⌝ }
 {
     let mut key = queue::least(mins);
     while key != queue::EMPTY {
@@ -168,7 +169,7 @@ pub fn lift(
     mins: &mut [u32; 16],
 )
     requires { ⌜ Proper (table nodes root (now starts) (now ends) (now costs)) × Firsts (now starts) (now at) × Rooted (table nodes root (now starts) (now ends) (now costs)) (now parent) × Ready (table nodes root (now starts) (now ends) (now costs)) (now dist) (now keys) (now mins) ⌝ }
-    ensures { λ _. ⌜ Lifted (table nodes root (now (starts .entry)) (now (ends .entry)) (now (costs .entry))) (now (dist .exit)) (now (keys .exit)) (now (mins .exit)) ⌝ }
+    ensures { λ _. ⌜ Lifted (table nodes root (now (starts .entry)) (now (ends .entry)) (now (costs .entry))) (now (parent .entry)) (now (dist .exit)) (now (keys .exit)) (now (mins .exit)) ⌝ }
 {
     note_loose(nodes, root, starts, ends, costs, parent, dist, keys, mins);
     lift_noted(

@@ -1,6 +1,7 @@
 -- Theorems about specs/ and the proofs of the functions, in reading order.
 pub mod Reach
 pub mod Offers
+pub mod Finds
 pub mod Weight
 pub mod Rounds
 pub mod Firsts

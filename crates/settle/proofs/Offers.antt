@@ -97,7 +97,7 @@ module _ {dist keys mins : List ℕ} (h : Lined dist keys mins) {end : ℕ} (is-
 -- ---- what an offer keeps
 
 -- a node that took an offer waits
-waits-now : {key distance v : ℕ} → v < mostNodes → distance < unreached → key ≡ keyOf distance v → key ≢ empty
+pub waits-now : {key distance v : ℕ} → v < mostNodes → distance < unreached → key ≡ keyOf distance v → key ≢ empty
 waits-now n l e none = omega arith
 
 calm-still : {t : Table} {dist keys mins dist' keys' : List ℕ} → Lined dist keys mins → Fell dist keys dist' keys' → {k : ℕ}

@@ -9,14 +9,15 @@ use native.Mathlib.Nat.{not-suc-le-zero}
 use native.Mathlib.Decide.{decLt, ℕ-discrete}
 use lib.ListN.{length, getD, set, replicate, length-replicate, getD-replicate, List·getD-eq-default}
 use lib.Seq.{getD-set-same, getD-set-other}
-use Rattle.rules.specs.Net.{at-root}
-use Rattle.rules.specs.Columns.{Table, Proper, netOf, table, mostNodes, unreached}
+use Rattle.rules.specs.Net.{Usable, at-root}
+use Rattle.rules.specs.Columns.{Table, Proper, netOf, table, mostNodes, unreached, noLink}
 use Rattle.rules.specs.Demands.{Narrow}
 use Rattle.rules.proofs.Judged.{legal, roomy}
 use Rattle.queue.specs.Queue.{empty, Stands, Least, Rekeyed}
 use Rattle.queue.proofs.Laws.{least-key, queue-none}
 use Rattle.rules.proofs.Logic.{getD-any}
-use Rattle.settle.specs.Afoot.{distAt, keyAt, keyOf, Keyed, idle, waits, Lined, Begun, Partly, Afoot, Settled, weight, FirstOf}
+use Rattle.settle.specs.Afoot.{NotFrom, distAt, keyAt, keyOf, Keyed, idle, waits, Lined, Begun, Partly, Afoot, Settled, weight, FirstOf}
+use Rattle.settle.specs.Finding.{foundAt, Alone}
 use Rattle.settle.proofs.Reach.{Sure, sums}
 use Rattle.settle.proofs.Offers.{inside, partly-fewer, OverLink, link-fell, partly-more, others-still, entry, key-falls, lined-taken}
 use Rattle.settle.proofs.Weight.{weight-fell, weight-taken}
@@ -42,8 +43,12 @@ pub record Leaves (t : Table) (u first near heavy k : ℕ) (dist keys mins : Lis
   pub partly : Partly t (λ j. getD (t .starts) j 0 ≡ u → j < k) dist keys mins
   pub lighter : weight dist keys ≤ heavy
 
+pub leaves-from : {t : Table} {u first near heavy k : ℕ} {dist keys mins : List ℕ} → Leaves t u first near heavy k dist keys mins
+    → {start : ℕ} → start ≡ u → distAt dist start ≡ near
+leaves-from h e = rw e (h .near-is)
+
 module _ {t : Table} {u first : ℕ} (f : FirstOf (t .starts) u first) {dist keys mins : List ℕ} where
-  pub leaves-none : Partly t (λ j. getD (t .starts) j 0 ≢ u) dist keys mins → distAt dist u < unreached
+  pub leaves-none : Partly t (NotFrom (t .starts) u) dist keys mins → distAt dist u < unreached
       → Leaves t u first (getD dist u 0) (weight dist keys) first dist keys mins
   leaves-none p near =
       record {
@@ -59,7 +64,7 @@ module _ {t : Table} {u first : ℕ} (f : FirstOf (t .starts) u first) {dist key
         → OverLink t k near dist keys dist' keys'
         → Leaves t u first near heavy (k + 1) dist' keys' mins'
     leaves-more l leaves lined o =
-        let from : distAt dist (getD (t .starts) k 0) ≡ near = rw leaves (h .near-is) in
+        let from = leaves-from h leaves in
         record {
           begins = omega (arith, h .begins);
           within = omega arith;
@@ -69,15 +74,19 @@ module _ {t : Table} {u first : ℕ} (f : FirstOf (t .starts) u first) {dist key
         }
 
     -- no link from k on leaves u
-    pub leaves-all : (k < length (t .starts) → getD (t .starts) k 0 ≢ u) → Afoot t dist keys mins
-    leaves-all past = partly-fewer (λ j ok any e. at j (ok .is-link) e (decLt j k)) (h .partly)
-      where
-        at : (j : ℕ) → j < length (t .starts) → getD (t .starts) j 0 ≡ u → Dec (j < k) → j < k
-        at j l e (yes before) = before
-        at j l e (no behind) =
-            let from = starts-rise proper first k (h .begins) (omega arith) in
-            let to = starts-rise proper k j (omega arith) l in
-            absurd (past (omega arith) (omega (arith, from, to, f .leaves (omega (arith, h .begins)))))
+    module _ (past : k < length (t .starts) → getD (t .starts) k 0 ≢ u) where
+      pub leaves-done : (j : ℕ) → Usable (netOf t) j → Unit {0} → getD (t .starts) j 0 ≡ u → j < k
+      leaves-done j ok any e = at (decLt j k)
+        where
+          at : Dec (j < k) → j < k
+          at (yes before) = before
+          at (no behind) =
+              let from = starts-rise proper first k (h .begins) (omega (arith, ok .is-link)) in
+              let to = starts-rise proper k j (omega arith) (ok .is-link) in
+              absurd (past (omega (arith, ok .is-link)) (omega (arith, from, to, f .leaves (omega (arith, h .begins, ok .is-link)))))
+
+      pub leaves-all : Afoot t dist keys mins
+      leaves-all = partly-fewer leaves-done (h .partly)
 
 -- ---- every link
 
@@ -129,7 +138,7 @@ module _ {t : Table} {dist keys mins : List ℕ} (p : Afoot t dist keys mins) {u
   other-key : (v : ℕ) → v ≢ u → keyAt keys' v ≡ keyAt keys v
   other-key v d = rw (r .is-set) (getD-set-other keys u v empty empty d)
 
-  pub partly-taken : Partly t (λ k. getD (t .starts) k 0 ≢ u) dist keys' mins'
+  pub partly-taken : Partly t (NotFrom (t .starts) u) dist keys' mins'
   partly-taken =
       record {
         begun = record {
@@ -174,6 +183,10 @@ filled n a v = at (decLt v n)
     at (yes l) = getD-replicate n v a a l
     at (no l) = List·getD-eq-default (replicate n a) a (omega (arith, length-replicate n a))
 
+-- no link is found
+pub none-found : {found : List ℕ} → found ≡ replicate mostNodes noLink → (length found ≡ mostNodes) × ((v : ℕ) → foundAt found v ≡ noLink)
+none-found e = rw e (length-replicate mostNodes noLink, filled mostNodes noLink)
+
 -- nothing waits
 pub lined-none : {dist : List ℕ} → length dist ≡ mostNodes → ((v : ℕ) → distAt dist v ≤ unreached)
     → Lined dist (replicate mostNodes empty) (replicate 16 empty)
@@ -214,12 +227,15 @@ module _ {dist keys mins : List ℕ} (b : Blank dist keys mins) {root : ℕ} (is
     root-waits : keyAt keys' root ≡ root
     root-waits = rw (r .is-set) (getD-set-same keys root root empty (omega (arith, blank-lined .queue .keys-long)))
 
+    pub seeded-alone : Alone root (set dist root 0)
+    seeded-alone = record { far = λ v d. getD-set-other dist root v 0 unreached d ∙ far v }
+
     only-root : (v : ℕ) → distAt (set dist root 0) v < unreached → v ≡ root
     only-root v near = at (ℕ-discrete v root)
       where
         at : Dec (v ≡ root) → v ≡ root
         at (yes e) = e
-        at (no d) = absurd (omega (arith, getD-set-other dist root v 0 unreached d, far v))
+        at (no d) = absurd (omega (arith, seeded-alone .far v d))
 
     pub seeded : (nodes : ℕ) (starts ends costs : List ℕ) → Afoot (table nodes root starts ends costs) (set dist root 0) keys' mins'
     seeded nodes starts ends costs =

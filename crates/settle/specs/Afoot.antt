@@ -57,9 +57,18 @@ pub record Partly (t : Table) (done : ℕ → Type 0) (dist keys mins : List ℕ
   pub begun : Begun t dist keys mins
   pub calm : (k : ℕ) → Usable (netOf t) k → done k → Calm t dist keys k
 
--- every link is done
+-- which links are done: every one, none, or every one that doesn't leave u
+abbrev pub Every : ℕ → Type 0
+Every k = Unit {0}
+
+abbrev pub NotOne : ℕ → Type 0
+NotOne k = ⊥
+
+abbrev pub NotFrom : List ℕ → ℕ → ℕ → Type 0
+NotFrom starts u k = getD starts k 0 ≢ u
+
 abbrev pub Afoot : Table → List ℕ → List ℕ → List ℕ → Type 0
-Afoot t dist keys mins = Partly t (λ k. Unit {0}) dist keys mins
+Afoot t dist keys mins = Partly t Every dist keys mins
 
 -- nothing waits, and the distances are the least sums
 pub record Settled (t : Table) (dist keys mins : List ℕ) : Type 0 where

@@ -1,1 +1,2 @@
 pub mod Afoot
+pub mod Finding

@@ -1,15 +1,15 @@
 // The loop that finds the least sums of costs, whoever starts it: take the waiting node of least distance, and offer
-// its distance plus the cost over each link that leaves it; a node that takes an offer waits. With an offer goes a guess
-// at the first link of its way.
+// its distance plus the cost over each link that leaves it; a node that takes an offer waits. Beside the distances stand
+// the links that the offers came by: an offer that is less brings its link, an equal one lowers it.
 ghost use mathlib.Core.Path.{_≡_};
-ghost use mathlib.Core.Logic.{_≢_};
 ghost use mathlib.Core.List.{List};
 ghost use Prim.Native.Nat.{ℕ, _≤_, _<_};
 ghost use lib.ListN.{length, getD, replicate};
 ghost use lib.Dec.{ltb};
-ghost use Rattle.rules.specs.Columns.{Proper, table, mostNodes, unreached};
+ghost use Rattle.rules.specs.Columns.{Proper, table, mostNodes, unreached, noLink};
 ghost use Rattle.queue.specs.Queue.{empty};
-ghost use Rattle.settle.specs.Afoot.{distAt, Lined, Begun, Partly, Afoot, Settled, Offered, weight, FirstOf, Firsts, Leaving};
+ghost use Rattle.settle.specs.Afoot.{distAt, Lined, Begun, Partly, Every, NotOne, NotFrom, Afoot, Settled, Offered, weight, FirstOf, Firsts, Leaving};
+ghost use Rattle.settle.specs.Finding.{Noted, Lowered, GoesOn, Comes, Alone};
 
 // For each node the first link that leaves it, or the number of links where none does: the last store is the first
 // link's.
@@ -34,33 +34,53 @@ fn usable(cost: u32) -> bool
     0 < cost
 }
 
-// A guess at the first link of a way that goes on over `link` from node u: at the root the link itself, else u's own
-// guess. Nothing is promised of guesses: whoever hangs the nodes asks in one pass whether they are right. They are, but
-// where two ways have one sum and the tree takes the other.
-fn guess_over(root: usize, u: usize, link: u16, own: u16) -> u16 {
-    if u == root { link } else { own }
-}
-
-// The sum is offered to a link's end, and the guess with it. Whether the link is usable is asked last.
-fn offer(
+// The sum is offered to a link's end: one that is less is taken, and its link found. Whether the link is usable is asked
+// last.
+fn offer_less(
     dist: &mut [u32; 256],
     keys: &mut [u32; 256],
     mins: &mut [u32; 16],
-    guesses: &mut [u16; 256],
+    found: &mut [u16; 256],
     end: u16,
     sum: u32,
     cost: u32,
-    guess: u16,
+    link: u16,
 )
-    requires { ⌜ Lined (now dist) (now keys) (now mins) × (end < 256) × (length (now guesses) ≡ mostNodes) ⌝ }
-    ensures { λ _. ⌜ Lined (now (dist .exit)) (now (keys .exit)) (now (mins .exit)) × Offered (now (dist .entry)) (now (keys .entry)) end sum cost (now (dist .exit)) (now (keys .exit)) × (length (now (guesses .exit)) ≡ mostNodes) ⌝ }
+    requires { ⌜ Lined (now dist) (now keys) (now mins) × (end < 256) × (length (now found) ≡ mostNodes) ⌝ }
+    ensures { λ _. ⌜ Lined (now (dist .exit)) (now (keys .exit)) (now (mins .exit)) × Offered (now (dist .entry)) (now (keys .entry)) end sum cost (now (dist .exit)) (now (keys .exit)) × (length (now (found .exit)) ≡ mostNodes) × Noted (now (dist .entry)) (now (found .entry)) end sum cost link (now (found .exit)) ⌝ }
 {
     let node = end as usize;
     if sum < dist[node] {
         if usable(cost) {
             dist[node] = sum;
-            guesses[node] = guess;
+            found[node] = link;
             queue::put(keys, mins, node, sum * 256 + end as u32);
+        }
+    }
+}
+
+// The same, and a sum that equals the distance may lower the link found.
+fn offer(
+    dist: &mut [u32; 256],
+    keys: &mut [u32; 256],
+    mins: &mut [u32; 16],
+    found: &mut [u16; 256],
+    end: u16,
+    sum: u32,
+    cost: u32,
+    link: u16,
+)
+    requires { ⌜ Lined (now dist) (now keys) (now mins) × (end < 256) × (length (now found) ≡ mostNodes) ⌝ }
+    ensures { λ _. ⌜ Lined (now (dist .exit)) (now (keys .exit)) (now (mins .exit)) × Offered (now (dist .entry)) (now (keys .entry)) end sum cost (now (dist .exit)) (now (keys .exit)) × (length (now (found .exit)) ≡ mostNodes) × Noted (now (dist .entry)) (now (found .entry)) end sum cost link (now (found .exit)) × Lowered (now (dist .entry)) end sum cost link (now (found .exit)) ⌝ }
+{
+    let node = end as usize;
+    if sum != dist[node] {
+        offer_less(dist, keys, mins, found, end, sum, cost, link);
+        return;
+    }
+    if link < found[node] {
+        if usable(cost) {
+            found[node] = link;
         }
     }
 }
@@ -77,26 +97,47 @@ fn offer_from(
     dist: &mut [u32; 256],
     keys: &mut [u32; 256],
     mins: &mut [u32; 16],
-    guesses: &mut [u16; 256],
+    found: &mut [u16; 256],
 )
-    requires { ⌜ Proper (table nodes root (now starts) (now ends) (now costs)) × Partly (table nodes root (now starts) (now ends) (now costs)) (λ k. getD (now starts) k 0 ≢ u) (now dist) (now keys) (now mins) × FirstOf (now starts) u first × (distAt (now dist) u < unreached) × (length (now guesses) ≡ mostNodes) ⌝ }
-    ensures { λ _. ⌜ Afoot (table nodes root (now (starts .entry)) (now (ends .entry)) (now (costs .entry))) (now (dist .exit)) (now (keys .exit)) (now (mins .exit)) × (weight (now (dist .exit)) (now (keys .exit)) ≤ weight (now (dist .entry)) (now (keys .entry))) × (length (now (guesses .exit)) ≡ mostNodes) ⌝ }
+    requires { ⌜ Proper (table nodes root (now starts) (now ends) (now costs)) × Partly (table nodes root (now starts) (now ends) (now costs)) (NotFrom (now starts) u) (now dist) (now keys) (now mins) × FirstOf (now starts) u first × (distAt (now dist) u < unreached) × (length (now found) ≡ mostNodes) ⌝ }
+    ensures { λ _. ⌜ Afoot (table nodes root (now (starts .entry)) (now (ends .entry)) (now (costs .entry))) (now (dist .exit)) (now (keys .exit)) (now (mins .exit)) × (weight (now (dist .exit)) (now (keys .exit)) ≤ weight (now (dist .entry)) (now (keys .entry))) × GoesOn (table nodes root (now (starts .entry)) (now (ends .entry)) (now (costs .entry))) (NotFrom (now (starts .entry)) u) (now (dist .entry)) (now (keys .entry)) (now (found .entry)) Every (now (dist .exit)) (now (keys .exit)) (now (found .exit)) ⌝ }
 {
     let near = dist[u];
-    let own = guesses[u];
     let mut k = first as usize;
     while k < starts.len() {
         if starts[k] as usize != u {
             return;
         }
         let cost = costs[k] as u32;
-        let guess = guess_over(root, u, k as u16, own);
-        offer(dist, keys, mins, guesses, ends[k], near + cost, cost, guess);
+        offer(
+            dist,
+            keys,
+            mins,
+            found,
+            ends[k],
+            near + cost,
+            cost,
+            k as u16,
+        );
         k += 1;
     }
 }
 
-// Until no node waits.
+// A guess at the first link of a way that ends with `link`: the link itself where it leaves the root, else the guess of
+// the node that it leaves; by no link, none. Nothing is promised of guesses: whoever hangs the nodes asks in one pass
+// whether they are right.
+fn guess_by(root: usize, starts: &[u16], guesses: &[u16; 256], link: u16) -> u16
+    requires { ⌜ Leaving (now starts) ⌝ }
+{
+    let k = link as usize;
+    if starts.len() <= k {
+        return link;
+    }
+    let start = starts[k] as usize;
+    if start == root { link } else { guesses[start] }
+}
+
+// Until no node waits. With each node that is taken, its first link is guessed.
 pub fn settle(
     nodes: usize,
     root: usize,
@@ -107,15 +148,17 @@ pub fn settle(
     dist: &mut [u32; 256],
     keys: &mut [u32; 256],
     mins: &mut [u32; 16],
+    found: &mut [u16; 256],
     guesses: &mut [u16; 256],
 )
-    requires { ⌜ Proper (table nodes root (now starts) (now ends) (now costs)) × Firsts (now starts) (now at) × Afoot (table nodes root (now starts) (now ends) (now costs)) (now dist) (now keys) (now mins) × (length (now guesses) ≡ mostNodes) ⌝ }
-    ensures { λ _. ⌜ Settled (table nodes root (now (starts .entry)) (now (ends .entry)) (now (costs .entry))) (now (dist .exit)) (now (keys .exit)) (now (mins .exit)) × (length (now (guesses .exit)) ≡ mostNodes) ⌝ }
+    requires { ⌜ Proper (table nodes root (now starts) (now ends) (now costs)) × Firsts (now starts) (now at) × Afoot (table nodes root (now starts) (now ends) (now costs)) (now dist) (now keys) (now mins) × (length (now found) ≡ mostNodes) × (length (now guesses) ≡ mostNodes) ⌝ }
+    ensures { λ _. ⌜ Settled (table nodes root (now (starts .entry)) (now (ends .entry)) (now (costs .entry))) (now (dist .exit)) (now (keys .exit)) (now (mins .exit)) × Comes (table nodes root (now (starts .entry)) (now (ends .entry)) (now (costs .entry))) (now (dist .entry)) (now (keys .entry)) (now (found .entry)) (now (dist .exit)) (now (found .exit)) × (length (now (guesses .exit)) ≡ mostNodes) ⌝ }
 {
     let mut key = queue::least(mins);
     while key != queue::EMPTY {
         let u = (key % 256) as usize;
         queue::take(keys, mins, u);
+        guesses[u] = guess_by(root, starts, guesses, found[u]);
         offer_from(
             nodes,
             root,
@@ -127,13 +170,15 @@ pub fn settle(
             dist,
             keys,
             mins,
-            guesses,
+            found,
         );
         key = queue::least(mins);
     }
 }
 
-// Each link is offered once, where nothing is known of the links yet.
+// Each link is offered once, where nothing is known of the links yet, and none is found. They come in the order of their
+// numbers: of two with one sum the first has the smaller number, so an equal sum never lowers a link that was found here.
+// Nodes that stand have a link with an equal sum each, and which that is can't be foretold, so asking isn't cheap.
 pub fn offer_all(
     nodes: usize,
     root: usize,
@@ -143,18 +188,17 @@ pub fn offer_all(
     dist: &mut [u32; 256],
     keys: &mut [u32; 256],
     mins: &mut [u32; 16],
-    guesses: &mut [u16; 256],
+    found: &mut [u16; 256],
 )
-    requires { ⌜ Proper (table nodes root (now starts) (now ends) (now costs)) × Begun (table nodes root (now starts) (now ends) (now costs)) (now dist) (now keys) (now mins) × (length (now guesses) ≡ mostNodes) ⌝ }
-    ensures { λ _. ⌜ Afoot (table nodes root (now (starts .entry)) (now (ends .entry)) (now (costs .entry))) (now (dist .exit)) (now (keys .exit)) (now (mins .exit)) × (length (now (guesses .exit)) ≡ mostNodes) ⌝ }
+    requires { ⌜ Proper (table nodes root (now starts) (now ends) (now costs)) × Begun (table nodes root (now starts) (now ends) (now costs)) (now dist) (now keys) (now mins) × (now found ≡ replicate 256 noLink) ⌝ }
+    ensures { λ _. ⌜ Afoot (table nodes root (now (starts .entry)) (now (ends .entry)) (now (costs .entry))) (now (dist .exit)) (now (keys .exit)) (now (mins .exit)) × GoesOn (table nodes root (now (starts .entry)) (now (ends .entry)) (now (costs .entry))) NotOne (now (dist .entry)) (now (keys .entry)) (now (found .entry)) Every (now (dist .exit)) (now (keys .exit)) (now (found .exit)) ⌝ }
 {
     let mut k: usize = 0;
     while k < starts.len() {
         let start = starts[k] as usize;
         let cost = costs[k] as u32;
         let sum = dist[start] + cost;
-        let guess = guess_over(root, start, k as u16, guesses[start]);
-        offer(dist, keys, mins, guesses, ends[k], sum, cost, guess);
+        offer_less(dist, keys, mins, found, ends[k], sum, cost, k as u16);
         k += 1;
     }
 }
@@ -162,7 +206,7 @@ pub fn offer_all(
 // Only the root is reached, and waits.
 pub fn seed(root: usize, dist: &mut [u32; 256], keys: &mut [u32; 256], mins: &mut [u32; 16])
     requires { ⌜ (root < 256) × (now dist ≡ replicate 256 unreached) × (now keys ≡ replicate 256 empty) × (now mins ≡ replicate 16 empty) ⌝ }
-    ensures { λ _. ⌜ ((nodes : ℕ) (starts ends costs : List ℕ) → Afoot (table nodes root starts ends costs) (now (dist .exit)) (now (keys .exit)) (now (mins .exit))) ⌝ }
+    ensures { λ _. ⌜ ((nodes : ℕ) (starts ends costs : List ℕ) → Afoot (table nodes root starts ends costs) (now (dist .exit)) (now (keys .exit)) (now (mins .exit))) × Alone root (now (dist .exit)) ⌝ }
 {
     dist[root] = 0;
     queue::put(keys, mins, root, root as u32);

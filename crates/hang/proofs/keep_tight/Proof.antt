@@ -4,15 +4,15 @@ use Prim.Native.Nat.{_-_}
 use native.Mathlib.Omega.{arith}
 use borrow.Author.Needs.{needs}
 use Rattle.rules.specs.Columns.{mostNodes}
-use Rattle.hang.proofs.Parents.{Keeping, passing-none, passing-more, all-kept}
+use Rattle.hang.proofs.Parents.{Keeping, passing-none, passing-more, all-kept, kept-read}
 use Rattle.hang.proofs.keep_tight.Statement.{statement}
 use Rattle.hang.proofs.keep_tight.Tie as tie
 
 abbrev Inv-loop : tie.InvT-loop
-Inv-loop starts ends costs dist parent₀ v₀ parent v = Keeping starts ends costs dist v parent₀ parent
+Inv-loop starts ends costs dist found parent₀ v₀ parent v = Keeping starts ends costs dist found v parent₀ parent
 
 abbrev μ-loop : tie.MeasureT-loop
-μ-loop starts ends costs dist parent₀ v₀ parent v = mostNodes - v
+μ-loop starts ends costs dist found parent₀ v₀ parent v = mostNodes - v
 
 loop-holds : tie.Need-loop-holds Inv-loop μ-loop
 loop-holds c = passing-none (c .before .before .before .pre .1)
@@ -23,8 +23,14 @@ mul-kept c = search needs
 element-copy-out-kept : tie.Need-element-copy-out-kept Inv-loop μ-loop
 element-copy-out-kept c = search needs
 
+mul-kept-2 : tie.Need-mul-kept-2 Inv-loop μ-loop
+mul-kept-2 c = search needs
+
+element-copy-out-kept-2 : tie.Need-element-copy-out-kept-2 Inv-loop μ-loop
+element-copy-out-kept-2 c = search needs
+
 kept-requires : tie.Need-kept-requires Inv-loop μ-loop
-kept-requires c κs = (c .before .before .before .before .before .before .pre .0, search needs)
+kept-requires c κs = (c .before .before .before .before .before .before .before .pre .0, search needs)
 
 mul-parent : tie.Need-mul-parent Inv-loop μ-loop
 mul-parent c = search needs
@@ -39,12 +45,15 @@ loop-less : tie.Need-loop-less Inv-loop μ-loop
 loop-less c = search needs
 
 loop-again : tie.Need-loop-again Inv-loop μ-loop
-loop-again c = passing-more (c .before .before .before .loop .inv) (omega arith) (c .kept .ensures)
+loop-again c =
+    let start = c .before .before .before .before .before .before .before .before in
+    let loop = c .before .before .before .before .loop in
+    passing-more (loop .inv) (omega arith) (kept-read (start .args .found .now) (loop .v) (start .pre .2) (omega arith) (c .kept .ensures))
 
 returns : tie.Need-returns Inv-loop μ-loop
 returns c =
     let start = c .before .before .before .before .before in
-    all-kept (start .pre .0) (c .before .loop .inv) (omega arith) (start .pre .1)
+    all-kept (start .pre .0) (start .pre .2) (c .before .loop .inv) (omega arith) (start .pre .1)
 
 pub keep-tight-spec : {M : Type 1} → statement M
 keep-tight-spec =
@@ -55,6 +64,8 @@ keep-tight-spec =
     loop-holds
     mul-kept
     element-copy-out-kept
+    mul-kept-2
+    element-copy-out-kept-2
     kept-requires
     mul-parent
     element-write-parent

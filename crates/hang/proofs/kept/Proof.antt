@@ -2,12 +2,12 @@
 use mathlib.Core.Path.{refl}
 use native.Mathlib.Omega.{arith}
 use borrow.Author.Needs.{needs}
-use Rattle.hang.specs.Passes.{keeps, drops}
+use Rattle.hang.specs.Passes.{keeps, takes}
 use Rattle.hang.proofs.kept.Statement.{statement}
 use Rattle.hang.proofs.kept.Tie as tie
 
 returns : tie.Need-returns
-returns c = drops (λ a. omega (arith, a .is-link)) refl
+returns c = takes (λ a. omega (arith, a .is-link)) refl
 
 mul-if2 : tie.Need-mul-if2
 mul-if2 c = search needs
@@ -19,7 +19,7 @@ cast-if2 : tie.Need-cast-if2
 cast-if2 c = omega (arith, c .shared-slice-known4 .given (c .before .before .before .before .before .args .old))
 
 returns-2 : tie.Need-returns-2
-returns-2 c = drops (λ a. c .if2 .taken (a .ends-at)) refl
+returns-2 c = takes (λ a. c .if2 .taken (a .ends-at)) refl
 
 mul-tight-into : tie.Need-mul-tight-into
 mul-tight-into c = search needs
@@ -44,7 +44,7 @@ returns-3 c =
     keeps (record { is-link = c .before .before .before .before .before .before .if1 .left; ends-at = c .before .before .before .before .if2 .left; exact = exact }) refl
 
 returns-4 : tie.Need-returns-4
-returns-4 c = drops (λ a. c .before .tight-into .ensures .fails (c .if3 .left) (a .exact)) refl
+returns-4 c = takes (λ a. c .before .tight-into .ensures .fails (c .if3 .left) (a .exact)) refl
 
 pub kept-spec : {M : Type 1} → statement M
 kept-spec =

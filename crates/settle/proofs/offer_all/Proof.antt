@@ -1,26 +1,34 @@
--- `settle::offer_all` meets its contract. The invariant: the links before `k` are done, and the guesses are whole; the measure
--- is the number of links left. Assumes nothing.
+-- `settle::offer_all` meets its contract. The invariant: the links before `k` are done, and what is known of the links found
+-- goes on, all of which come before `k`; the measure is the number of links left. Assumes nothing.
 use mathlib.Core.Path.{_≡_, sym}
 use Prim.Native.Nat.{_-_, _≤_, _<_}
 use native.Mathlib.Omega.{arith}
 use lib.ListN.{length, getD}
+use native.Mathlib.Nat.{not-suc-le-zero}
 use borrow.Author.Needs.{needs}
-use Rattle.rules.specs.Columns.{table, mostNodes}
-use Rattle.settle.specs.Afoot.{Partly}
+use Rattle.rules.specs.Columns.{table}
+use Rattle.settle.specs.Afoot.{NotOne, Partly}
+use Rattle.settle.specs.Finding.{GoesOn}
 use Rattle.settle.proofs.Offers.{start-is-node, end-is-node, entry, partly-more}
-use Rattle.settle.proofs.Rounds.{through-none, through-all}
+use Rattle.settle.proofs.Finds.{Early, on-none, on-next, on-fewer, early-none, early-more}
+use Rattle.settle.proofs.Rounds.{none-found, through-none, through-all}
 use Rattle.settle.proofs.offer_all.Statement.{statement}
 use Rattle.settle.proofs.offer_all.Tie as tie
 
 abbrev Inv-loop : tie.InvT-loop
-Inv-loop nodes root starts ends costs dist₀ keys₀ mins₀ guesses₀ k₀ dist keys mins guesses k =
-    (k ≤ length starts) × Partly (table nodes root starts ends costs) (λ j. j < k) dist keys mins × (length guesses ≡ mostNodes)
+Inv-loop nodes root starts ends costs dist₀ keys₀ mins₀ found₀ k₀ dist keys mins found k =
+    (k ≤ length starts) × Partly (table nodes root starts ends costs) (λ j. j < k) dist keys mins
+    × GoesOn (table nodes root starts ends costs) NotOne dist₀ keys₀ found₀ (λ j. j < k) dist keys found
+    × Early k found
 
 abbrev μ-loop : tie.MeasureT-loop
-μ-loop nodes root starts ends costs dist₀ keys₀ mins₀ guesses₀ k₀ dist keys mins guesses k = length starts - k
+μ-loop nodes root starts ends costs dist₀ keys₀ mins₀ found₀ k₀ dist keys mins found k = length starts - k
 
 loop-holds : tie.Need-loop-holds Inv-loop μ-loop
-loop-holds c = (omega arith, through-none (c .before .before .before .pre .1), c .before .before .before .pre .2)
+loop-holds c =
+    let start = c .before .before .before in
+    let none = none-found (start .pre .2) in
+    (omega arith, through-none (start .pre .1), on-fewer (λ j ok l. absurd (not-suc-le-zero l)) (on-none (none .0)), early-none (none .1))
 
 mul-start : tie.Need-mul-start Inv-loop μ-loop
 mul-start c = search needs
@@ -60,29 +68,20 @@ add-sum c =
     let lined = loop .inv .1 .begun .lined in
     omega (arith, entry lined node, lined .most (getD (start .args .starts .now) (loop .k) 0), c .before .shared-slice-known5 .given (loop .k))
 
-cast-guess-over : tie.Need-cast-guess-over Inv-loop μ-loop
-cast-guess-over c = omega (arith, c .before .before .before .before .before .before .before .before .pre .0 .few-links)
+mul-offer-less : tie.Need-mul-offer-less Inv-loop μ-loop
+mul-offer-less c = search needs
 
-mul-guess-over : tie.Need-mul-guess-over Inv-loop μ-loop
-mul-guess-over c = omega (arith, element-copy-out-sum (c .before))
+shared-slice-read-offer-less : tie.Need-shared-slice-read-offer-less Inv-loop μ-loop
+shared-slice-read-offer-less c = search needs
 
-element-copy-out-guess-over : tie.Need-element-copy-out-guess-over Inv-loop μ-loop
-element-copy-out-guess-over c = element-copy-out-sum (c .before)
+cast-offer-less : tie.Need-cast-offer-less Inv-loop μ-loop
+cast-offer-less c = omega (arith, c .before .before .before .before .before .before .before .before .before .before .before .before .before .pre .0 .few-links)
 
-guess-over-requires : tie.Need-guess-over-requires Inv-loop μ-loop
-guess-over-requires c κs = search needs
-
-mul-offer : tie.Need-mul-offer Inv-loop μ-loop
-mul-offer c = search needs
-
-shared-slice-read-offer : tie.Need-shared-slice-read-offer Inv-loop μ-loop
-shared-slice-read-offer c = search needs
-
-offer-requires : tie.Need-offer-requires Inv-loop μ-loop
-offer-requires c κs =
-    let start = c .before .before .before .before .before .before .before .before .before .before .before .before .before .before .before in
-    let loop = c .before .before .before .before .before .before .before .before .before .before .before .loop in
-    (loop .inv .1 .begun .lined, end-is-node (start .pre .0) (loop .k) (c .before .before .before .before .before .before .before .before .before .before .loop-test .taken), loop .inv .2)
+offer-less-requires : tie.Need-offer-less-requires Inv-loop μ-loop
+offer-less-requires c κs =
+    let start = c .before .before .before .before .before .before .before .before .before .before .before .before .before in
+    let loop = c .before .before .before .before .before .before .before .before .before .loop in
+    (loop .inv .1 .begun .lined, end-is-node (start .pre .0) (loop .k) (c .before .before .before .before .before .before .before .before .loop-test .taken), loop .inv .2 .long)
 
 add-k : tie.Need-add-k Inv-loop μ-loop
 add-k c = search needs
@@ -92,14 +91,21 @@ loop-less c = search needs
 
 loop-again : tie.Need-loop-again Inv-loop μ-loop
 loop-again c =
-    let start = c .before .before .before .before .before .before .before .before .before .before .before .before .before .before .before .before in
-    let loop = c .before .before .before .before .before .before .before .before .before .before .before .before .loop in
-    let link = c .before .before .before .before .before .before .before .before .before .before .before .loop-test .taken in
+    let start = c .before .before .before .before .before .before .before .before .before .before .before .before .before .before in
+    let loop = c .before .before .before .before .before .before .before .before .before .before .loop in
+    let link = c .before .before .before .before .before .before .before .before .before .loop-test .taken in
     let near = sym (entry (loop .inv .1 .begun .lined) (start-is-node (start .pre .0) (loop .k) link)) in
-    (omega arith, partly-more (start .pre .0) (loop .inv .1) link near (c .offer .ensures .0) (c .offer .ensures .1) (λ j l d. omega arith), c .offer .ensures .2)
+    let offered = c .offer-less .ensures in (
+      omega arith,
+      partly-more (start .pre .0) (loop .inv .1) link near (offered .0) (offered .1) (λ j l d. omega arith),
+      on-next (start .pre .0) (loop .inv .1) link near (offered .0) (offered .1) (loop .inv .2 .long) (offered .3) (loop .inv .2) (λ j l d. omega arith) (loop .inv .3),
+      early-more (start .pre .0) (loop .inv .1) link near (offered .0) (offered .1) (loop .inv .2 .long) (offered .3) (loop .inv .3),
+    )
 
 returns : tie.Need-returns Inv-loop μ-loop
-returns c = (through-all (c .loop-test .left) (c .before .loop .inv .1), c .before .loop .inv .2)
+returns c =
+    let loop = c .before .loop in
+    (through-all (c .loop-test .left) (loop .inv .1), on-fewer (λ j ok any. omega (arith, ok .is-link, c .loop-test .left)) (loop .inv .2))
 
 pub offer-all-spec : {M : Type 1} → statement M
 offer-all-spec =
@@ -117,13 +123,10 @@ offer-all-spec =
     mul-sum
     element-copy-out-sum
     add-sum
-    cast-guess-over
-    mul-guess-over
-    element-copy-out-guess-over
-    guess-over-requires
-    mul-offer
-    shared-slice-read-offer
-    offer-requires
+    mul-offer-less
+    shared-slice-read-offer-less
+    cast-offer-less
+    offer-less-requires
     add-k
     loop-less
     loop-again

@@ -1,23 +1,27 @@
--- `settle::offer_from` meets its contract. The invariant: the links that leave `u` are offered up to `k`, and the guesses are
--- whole; the measure is the number of links left. Assumes nothing.
+-- `settle::offer_from` meets its contract. The invariant: the links that leave `u` are offered up to `k`, and what is known
+-- of the links found goes on; the measure is the number of links left. Assumes nothing.
 use mathlib.Core.Path.{_≡_}
-use Prim.Native.Nat.{_-_}
+use mathlib.Core.Logic.{_≢_}
+use Prim.Native.Nat.{_-_, _<_}
 use native.Mathlib.Omega.{arith}
-use lib.ListN.{length}
+use lib.ListN.{length, getD}
 use borrow.Author.Needs.{needs}
-use Rattle.rules.specs.Columns.{table, mostNodes}
-use Rattle.settle.specs.Afoot.{weight}
+use Rattle.rules.specs.Columns.{table}
+use Rattle.settle.specs.Afoot.{NotFrom, weight}
+use Rattle.settle.specs.Finding.{GoesOn}
 use Rattle.settle.proofs.Offers.{end-is-node, inside}
-use Rattle.settle.proofs.Rounds.{Leaves, leaves-none, leaves-more, leaves-all}
+use Rattle.settle.proofs.Finds.{on-none, on-more, on-fewer}
+use Rattle.settle.proofs.Rounds.{Leaves, leaves-none, leaves-from, leaves-more, leaves-done, leaves-all}
 use Rattle.settle.proofs.offer_from.Statement.{statement}
 use Rattle.settle.proofs.offer_from.Tie as tie
 
 abbrev Inv-loop : tie.InvT-loop
-Inv-loop nodes root starts ends costs u first dist₀ keys₀ mins₀ guesses₀ near own k₀ dist keys mins guesses k =
-    Leaves (table nodes root starts ends costs) u first near (weight dist₀ keys₀) k dist keys mins × (length guesses ≡ mostNodes)
+Inv-loop nodes root starts ends costs u first dist₀ keys₀ mins₀ found₀ near k₀ dist keys mins found k =
+    Leaves (table nodes root starts ends costs) u first near (weight dist₀ keys₀) k dist keys mins
+    × GoesOn (table nodes root starts ends costs) (NotFrom starts u) dist₀ keys₀ found₀ (λ j. getD starts j 0 ≡ u → j < k) dist keys found
 
 abbrev μ-loop : tie.MeasureT-loop
-μ-loop nodes root starts ends costs u first dist₀ keys₀ mins₀ guesses₀ near own k₀ dist keys mins guesses k = length starts - k
+μ-loop nodes root starts ends costs u first dist₀ keys₀ mins₀ found₀ near k₀ dist keys mins found k = length starts - k
 
 mul-near : tie.Need-mul-near Inv-loop μ-loop
 mul-near c =
@@ -29,16 +33,12 @@ element-copy-out-near c =
     let start = c .before .before .before in
     inside (start .pre .1 .begun .lined) _ (start .pre .3)
 
-mul-own : tie.Need-mul-own Inv-loop μ-loop
-mul-own c = omega (arith, element-copy-out-near (c .before))
-
-element-copy-out-own : tie.Need-element-copy-out-own Inv-loop μ-loop
-element-copy-out-own c = element-copy-out-near (c .before)
-
 loop-holds : tie.Need-loop-holds Inv-loop μ-loop
 loop-holds c =
-    let start = c .before .before .before .before .before in
-    (leaves-none (start .pre .2) (start .pre .1) (start .pre .3), start .pre .4)
+    let start = c .before .before .before .before in (
+      leaves-none (start .pre .2) (start .pre .1) (start .pre .3),
+      on-fewer (λ j ok below e. start .pre .2 .before j (below e) e) (on-none (start .pre .4)),
+    )
 
 mul-if1 : tie.Need-mul-if1 Inv-loop μ-loop
 mul-if1 c = search needs
@@ -51,9 +51,13 @@ cast-if1 c = omega (arith, c .shared-slice-known4 .given (c .before .before .loo
 
 returns : tie.Need-returns Inv-loop μ-loop
 returns c =
-    let start = c .before .before .before .before .before .before .before .before .before in
+    let start = c .before .before .before .before .before .before .before .before in
     let loop = c .before .before .before .loop in
-    (leaves-all (start .pre .2) (start .pre .0) (loop .inv .0) (λ l. c .if1 .taken), loop .inv .0 .lighter, loop .inv .1)
+    let past = c .if1 .taken in (
+      leaves-all (start .pre .2) (start .pre .0) (loop .inv .0) (λ l. past),
+      loop .inv .0 .lighter,
+      on-fewer (leaves-done (start .pre .2) (start .pre .0) (loop .inv .0) (λ l. past)) (loop .inv .1),
+    )
 
 mul-cost : tie.Need-mul-cost Inv-loop μ-loop
 mul-cost c = search needs
@@ -64,12 +68,6 @@ shared-slice-read-cost c = search needs
 cast-cost : tie.Need-cast-cost Inv-loop μ-loop
 cast-cost c = omega (arith, c .shared-slice-known5 .given (c .before .before .before .before .loop .k))
 
-cast-guess-over : tie.Need-cast-guess-over Inv-loop μ-loop
-cast-guess-over c = omega (arith, c .before .before .before .before .before .before .before .before .before .before .pre .0 .few-links)
-
-guess-over-requires : tie.Need-guess-over-requires Inv-loop μ-loop
-guess-over-requires c κs = search needs
-
 mul-offer : tie.Need-mul-offer Inv-loop μ-loop
 mul-offer c = search needs
 
@@ -78,15 +76,18 @@ shared-slice-read-offer c = search needs
 
 add-offer : tie.Need-add-offer Inv-loop μ-loop
 add-offer c =
-    let start = c .before .before .before .before .before .before .before .before .before .before .before .before .before .before .before .before in
-    let loop = c .before .before .before .before .before .before .before .before .before .before .loop in
-    omega (arith, loop .inv .0 .near-is, loop .inv .0 .partly .begun .lined .most (start .args .u), c .before .before .before .before .before .before .shared-slice-known5 .given (loop .k))
+    let start = c .before .before .before .before .before .before .before .before .before .before .before .before .before .before in
+    let loop = c .before .before .before .before .before .before .before .before .before .loop in
+    omega (arith, loop .inv .0 .near-is, loop .inv .0 .partly .begun .lined .most (start .args .u), c .before .before .before .before .before .shared-slice-known5 .given (loop .k))
+
+cast-offer : tie.Need-cast-offer Inv-loop μ-loop
+cast-offer c = omega (arith, c .before .before .before .before .before .before .before .before .before .before .before .before .before .before .pre .0 .few-links)
 
 offer-requires : tie.Need-offer-requires Inv-loop μ-loop
 offer-requires c κs =
-    let start = c .before .before .before .before .before .before .before .before .before .before .before .before .before .before .before .before in
-    let loop = c .before .before .before .before .before .before .before .before .before .before .loop in
-    (loop .inv .0 .partly .begun .lined, end-is-node (start .pre .0) (loop .k) (c .before .before .before .before .before .before .before .before .before .loop-test .taken), loop .inv .1)
+    let start = c .before .before .before .before .before .before .before .before .before .before .before .before .before .before in
+    let loop = c .before .before .before .before .before .before .before .before .before .loop in
+    (loop .inv .0 .partly .begun .lined, end-is-node (start .pre .0) (loop .k) (c .before .before .before .before .before .before .before .before .loop-test .taken), loop .inv .1 .long)
 
 add-k : tie.Need-add-k Inv-loop μ-loop
 add-k c = search needs
@@ -96,15 +97,25 @@ loop-less c = search needs
 
 loop-again : tie.Need-loop-again Inv-loop μ-loop
 loop-again c =
-    let start = c .before .before .before .before .before .before .before .before .before .before .before .before .before .before .before .before .before in
-    let loop = c .before .before .before .before .before .before .before .before .before .before .before .loop in
-    (leaves-more (start .pre .2) (start .pre .0) (loop .inv .0) (c .before .before .before .before .before .before .before .before .before .before .loop-test .taken) (c .before .before .before .before .before .before .before .before .if1 .left) (c .offer .ensures .0) (c .offer .ensures .1), c .offer .ensures .2)
+    let start = c .before .before .before .before .before .before .before .before .before .before .before .before .before .before .before in
+    let loop = c .before .before .before .before .before .before .before .before .before .before .loop in
+    let link = c .before .before .before .before .before .before .before .before .before .loop-test .taken in
+    let leaves = c .before .before .before .before .before .before .before .if1 .left in
+    let from = leaves-from (loop .inv .0) leaves in
+    let offered = c .offer .ensures in (
+      leaves-more (start .pre .2) (start .pre .0) (loop .inv .0) link leaves (offered .0) (offered .1),
+      on-more (start .pre .0) (loop .inv .0 .partly) link from (offered .0) (offered .1) (loop .inv .1 .long) (offered .3) (loop .inv .1) (λ j below d e. omega (arith, below e)) (offered .4),
+    )
 
 returns-2 : tie.Need-returns-2 Inv-loop μ-loop
 returns-2 c =
-    let start = c .before .before .before .before .before .before .before in
+    let start = c .before .before .before .before .before .before in
     let loop = c .before .loop in
-    (leaves-all (start .pre .2) (start .pre .0) (loop .inv .0) (λ l. absurd (omega arith)), loop .inv .0 .lighter, loop .inv .1)
+    let past = c .loop-test .left in (
+      leaves-all (start .pre .2) (start .pre .0) (loop .inv .0) (λ l. absurd (omega arith)),
+      loop .inv .0 .lighter,
+      on-fewer (leaves-done (start .pre .2) (start .pre .0) (loop .inv .0) (λ l. absurd (omega arith))) (loop .inv .1),
+    )
 
 pub offer-from-spec : {M : Type 1} → statement M
 offer-from-spec =
@@ -114,8 +125,6 @@ offer-from-spec =
     μ-loop
     mul-near
     element-copy-out-near
-    mul-own
-    element-copy-out-own
     loop-holds
     mul-if1
     shared-slice-read-if1
@@ -124,11 +133,10 @@ offer-from-spec =
     mul-cost
     shared-slice-read-cost
     cast-cost
-    cast-guess-over
-    guess-over-requires
     mul-offer
     shared-slice-read-offer
     add-offer
+    cast-offer
     offer-requires
     add-k
     loop-less

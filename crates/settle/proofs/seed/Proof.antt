@@ -1,6 +1,6 @@
 -- `settle::seed` meets its contract: of a blank start, the root alone is reached, and waits. Assumes nothing.
 use borrow.Author.Needs.{needs}
-use Rattle.settle.proofs.Rounds.{Blank, blank-lined, root-key-falls, seeded}
+use Rattle.settle.proofs.Rounds.{Blank, blank-lined, root-key-falls, seeded, seeded-alone}
 use Rattle.settle.proofs.seed.Statement.{statement}
 use Rattle.settle.proofs.seed.Tie as tie
 
@@ -24,7 +24,7 @@ put-requires c κs =
 returns : tie.Need-returns
 returns c =
     let start = c .before .before .before in
-    seeded (blank start) (start .pre .0) (c .put .ensures)
+    (seeded (blank start) (start .pre .0) (c .put .ensures), seeded-alone (blank start) (start .pre .0) (c .put .ensures))
 
 pub seed-spec : {M : Type 1} → statement M
 seed-spec = tie.close (tie.spec mul-dist element-write-dist cast-put put-requires returns)

@@ -1,24 +1,29 @@
 -- `settle::settle` meets its contract. The invariant: every link is done but those of waiting nodes, `key` is the
--- least, and the guesses are whole; the measure is the weight. Assumes nothing.
+-- least, what is known of the links found goes on, and the guesses are whole; the measure is the weight. Assumes nothing.
 use mathlib.Core.Path.{_≡_}
 use Prim.Native.Nat.{_%_}
 use native.Mathlib.Omega.{arith}
-use lib.ListN.{length}
+use lib.ListN.{length, length-set}
 use borrow.Author.Needs.{needs}
 use Rattle.rules.specs.Columns.{table, mostNodes}
 use Rattle.rules.specs.Demands.{Narrow}
 use Rattle.queue.specs.Queue.{Least}
-use Rattle.settle.specs.Afoot.{Afoot, weight}
+use Rattle.settle.specs.Afoot.{Every, Afoot, weight}
+use Rattle.settle.specs.Finding.{GoesOn}
+use Rattle.settle.proofs.Finds.{on-none, on-then, on-taken, comes}
 use Rattle.settle.proofs.Rounds.{Chosen, chosen, partly-taken, lighter, settled}
+use Rattle.settle.proofs.Firsts.{leaving}
 use Rattle.settle.proofs.settle.Statement.{statement}
 use Rattle.settle.proofs.settle.Tie as tie
 
 abbrev Inv-loop : tie.InvT-loop
-Inv-loop nodes root starts ends costs at dist₀ keys₀ mins₀ guesses₀ key₀ dist keys mins guesses key =
-    Afoot (table nodes root starts ends costs) dist keys mins × Least mins 0 16 key × (length guesses ≡ mostNodes)
+Inv-loop nodes root starts ends costs at dist₀ keys₀ mins₀ found₀ guesses₀ key₀ dist keys mins found guesses key =
+    Afoot (table nodes root starts ends costs) dist keys mins × Least mins 0 16 key
+    × GoesOn (table nodes root starts ends costs) Every dist₀ keys₀ found₀ Every dist keys found
+    × (length guesses ≡ mostNodes)
 
 abbrev μ-loop : tie.MeasureT-loop
-μ-loop nodes root starts ends costs at dist₀ keys₀ mins₀ guesses₀ key₀ dist keys mins guesses key = weight dist keys
+μ-loop nodes root starts ends costs at dist₀ keys₀ mins₀ found₀ guesses₀ key₀ dist keys mins found guesses key = weight dist keys
 
 -- the node of least key waits
 node : (c : tie.In-loop Inv-loop μ-loop) → Chosen (c .before .loop .dist) (c .before .loop .keys) (c .before .loop .key % 256)
@@ -28,7 +33,9 @@ least-requires : tie.Need-least-requires Inv-loop μ-loop
 least-requires c κs = search needs
 
 loop-holds : tie.Need-loop-holds Inv-loop μ-loop
-loop-holds c = (c .before .before .before .before .before .pre .2, c .least .ensures, c .before .before .before .before .before .pre .3)
+loop-holds c =
+    let start = c .before .before .before .before .before in
+    (start .pre .2, c .least .ensures, on-none (start .pre .3), start .pre .4)
 
 cast-u : tie.Need-cast-u Inv-loop μ-loop
 cast-u c = search needs
@@ -36,34 +43,59 @@ cast-u c = search needs
 take-requires : tie.Need-take-requires Inv-loop μ-loop
 take-requires c κs = (c .before .before .before .loop .inv .0 .begun .lined .queue, node (c .before .before) .is-node)
 
+element-copy-out-guess-by : tie.Need-element-copy-out-guess-by Inv-loop μ-loop
+element-copy-out-guess-by c = node (c .before .before .before .before) .is-node
+
+mul-guess-by : tie.Need-mul-guess-by Inv-loop μ-loop
+mul-guess-by c = omega (arith, element-copy-out-guess-by c)
+
+guess-by-requires : tie.Need-guess-by-requires Inv-loop μ-loop
+guess-by-requires c κs = leaving (c .before .before .before .before .before .before .before .before .before .before .before .before .pre .0)
+
+element-write-guesses : tie.Need-element-write-guesses Inv-loop μ-loop
+element-write-guesses c = omega (arith, node (c .before .before .before .before .before .before) .is-node, c .before .before .before .before .before .before .before .loop .inv .3)
+
+mul-guesses : tie.Need-mul-guesses Inv-loop μ-loop
+mul-guesses c = omega (arith, node (c .before .before .before .before .before .before) .is-node)
+
 mul-offer-from : tie.Need-mul-offer-from Inv-loop μ-loop
-mul-offer-from c = omega (arith, node (c .before .before .before) .is-node)
+mul-offer-from c = omega (arith, node (c .before .before .before .before .before .before) .is-node)
 
 element-copy-out-offer-from : tie.Need-element-copy-out-offer-from Inv-loop μ-loop
-element-copy-out-offer-from c = node (c .before .before .before) .is-node
+element-copy-out-offer-from c = node (c .before .before .before .before .before .before) .is-node
 
 offer-from-requires : tie.Need-offer-from-requires Inv-loop μ-loop
 offer-from-requires c κs =
-    let start = c .before .before .before .before .before .before .before .before .before .before .before .before .before .before .before in
-    let loop = c .before .before .before .before .before .before .before .before .before .loop in
-    let chosen = node (c .before .before .before .before .before .before .before .before) in
-    (start .pre .0, partly-taken (loop .inv .0) chosen (c .before .before .before .before .before .take .ensures), start .pre .1 .each _ (chosen .is-node), chosen .near, loop .inv .2)
+    let start = c .before .before .before .before .before .before .before .before .before .before .before .before .before .before .before .before .before .before in
+    let loop = c .before .before .before .before .before .before .before .before .before .before .before .before .loop in
+    let chosen = node (c .before .before .before .before .before .before .before .before .before .before .before) in
+    (start .pre .0, partly-taken (loop .inv .0) chosen (c .before .before .before .before .before .before .before .before .take .ensures), start .pre .1 .each _ (chosen .is-node), chosen .near, loop .inv .2 .long)
 
 least-requires-2 : tie.Need-least-requires-2 Inv-loop μ-loop
 least-requires-2 c κs = search needs
 
 loop-less : tie.Need-loop-less Inv-loop μ-loop
-loop-less c = omega (arith, c .before .before .offer-from .ensures .1, lighter (c .before .before .before .before .before .before .before .before .before .before .before .before .loop .inv .0) (node (c .before .before .before .before .before .before .before .before .before .before .before)) (c .before .before .before .before .before .before .before .before .take .ensures))
+loop-less c =
+    let loop = c .before .before .before .before .before .before .before .before .before .before .before .before .before .before .before .loop in
+    omega (arith, c .before .before .offer-from .ensures .1, lighter (loop .inv .0) (node (c .before .before .before .before .before .before .before .before .before .before .before .before .before .before)) (c .before .before .before .before .before .before .before .before .before .before .before .take .ensures))
 
 loop-again : tie.Need-loop-again Inv-loop μ-loop
-loop-again c = (c .before .before .offer-from .ensures .0, c .least2 .ensures, c .before .before .offer-from .ensures .2)
+loop-again c =
+    let loop = c .before .before .before .before .before .before .before .before .before .before .before .before .before .before .before .loop in
+    let offered = c .before .before .offer-from .ensures in (
+      offered .0,
+      c .least2 .ensures,
+      on-then (loop .inv .2) (on-then (on-taken (c .before .before .before .before .before .before .before .before .before .before .before .take .ensures) (loop .inv .2 .long)) (offered .2)),
+      rw length-set (loop .inv .3),
+    )
 
 returns : tie.Need-returns Inv-loop μ-loop
 returns c =
     let start = c .before .before .before .before .before .before .before in
     let loop = c .before .loop in
     let narrow : Narrow (start .args .costs .now) = record { narrow = λ k. omega (arith, c .before .before .before .before .shared-slice-known3 .given k) } in
-    (settled (start .pre .0) narrow (loop .inv .0) (loop .inv .1) (c .loop-test .left), loop .inv .2)
+    let settled = settled (start .pre .0) narrow (loop .inv .0) (loop .inv .1) (c .loop-test .left) in
+    (settled, comes settled (loop .inv .2), loop .inv .3)
 
 pub settle-spec : {M : Type 1} → statement M
 settle-spec =
@@ -75,6 +107,11 @@ settle-spec =
     loop-holds
     cast-u
     take-requires
+    mul-guess-by
+    element-copy-out-guess-by
+    guess-by-requires
+    mul-guesses
+    element-write-guesses
     mul-offer-from
     element-copy-out-offer-from
     offer-from-requires
