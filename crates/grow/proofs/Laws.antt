@@ -31,7 +31,7 @@ same-everywhere n x v = at (decLt v n)
     at (no l) = List·getD-eq-default (replicate n x) x (omega (arith, length-replicate n x))
 
 -- an old tree and an empty queue are where lifting starts
-pub ready : {t : Table} {tree : Tree} → Old t tree → Ready t (tree .dist) (replicate 256 empty) (replicate 16 empty)
+pub ready : {t : Table} {tree : Tree} → Old t tree → Ready t (tree .dist) (replicate 256 empty) (replicate 72 empty)
 ready o = record {
   lined = record {
     queue = queue-none;

@@ -28,7 +28,7 @@ pub fn grow(
     *first = [NO_LINK; 256];
     let at = settle::first_links(starts);
     let mut keys = [queue::EMPTY; 256];
-    let mut mins = [queue::EMPTY; 16];
+    let mut mins = [queue::EMPTY; 72];
     settle::seed(root, dist, &mut keys, &mut mins);
     settle::settle(
         nodes,
@@ -62,7 +62,7 @@ pub fn regrow(
 {
     let at = settle::first_links(starts);
     let mut keys = [queue::EMPTY; 256];
-    let mut mins = [queue::EMPTY; 16];
+    let mut mins = [queue::EMPTY; 72];
     lift::lift(
         nodes,
         root,

@@ -11,7 +11,7 @@ use lib.Seq.{getD-set-same, getD-set-other}
 use Rattle.rules.specs.Net.{Usable, at-root, along}
 use Rattle.rules.specs.Columns.{Table, netOf, mostNodes, unreached}
 use Rattle.rules.proofs.Logic.{by-size, count-lt}
-use Rattle.queue.specs.Queue.{empty, Least, Rekeyed}
+use Rattle.queue.specs.Queue.{empty, LeastKey, Rekeyed}
 use Rattle.settle.specs.Afoot.{distAt, keyAt, Keyed, idle, Lined, Within}
 use Rattle.lift.specs.Loose as loose
 use Rattle.settle.specs.Finding.{Carries}
@@ -23,7 +23,7 @@ use Rattle.settle.proofs.Rounds.{Chosen, none-waits}
 -- every node stands, and the key is the least
 pub record Lifting (t : Table) (parent dist keys mins : List ℕ) (key : ℕ) : Type 0 where
   pub stands : AllStand t parent dist keys mins
-  pub least : Least mins 0 16 key
+  pub least : LeastKey mins key
 
 module _ {t : Table} {parent dist keys mins : List ℕ} (h : AllStand t parent dist keys mins) {u : ℕ} (w : Chosen dist keys u)
     {keys' mins' : List ℕ} (r : Rekeyed keys u empty keys' mins') where

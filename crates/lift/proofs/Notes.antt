@@ -13,8 +13,8 @@ use lib.ListN.{length, getD}
 use lib.Seq.{getD-set-same, getD-set-other}
 use Rattle.rules.specs.Columns.{Table, Proper, netOf, mostNodes, unreached, noLink}
 use Rattle.rules.proofs.Logic.{true-false, getD-any}
-use Rattle.queue.specs.Queue.{empty, Rekeyed}
-use Rattle.settle.specs.Afoot.{distAt, keyAt, keyOf, Keyed, idle, waits, Lined, FirstOf}
+use Rattle.queue.specs.Queue.{empty, keyOf, Rekeyed}
+use Rattle.settle.specs.Afoot.{distAt, keyAt, Keyed, idle, waits, Lined, FirstOf}
 use Rattle.lift.specs.Loose as loose
 use Rattle.settle.specs.Finding.{Offers, Carries}
 use Rattle.lift.specs.Loose.{parentAt, Says, Marked, Standing, Rooted, Loose, Hangs, AllStand, StandBut, Ready, Noted}

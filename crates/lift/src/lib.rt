@@ -49,13 +49,13 @@ fn carries(
 }
 
 // Node v waits to be lifted, if it is reached.
-fn note(v: usize, dist: &[u32; 256], keys: &mut [u32; 256], mins: &mut [u32; 16])
+fn note(v: usize, dist: &[u32; 256], keys: &mut [u64; 256], mins: &mut [u64; 72])
     requires { ⌜ Lined (now dist) (now keys) (now mins) × (v < mostNodes) ⌝ }
     ensures { λ _. ⌜ Noted (now (dist .entry)) (now (keys .entry)) v (now (keys .exit)) (now (mins .exit)) ⌝ }
 {
     let d = dist[v];
     if d < UNREACHED {
-        queue::put(keys, mins, v, d * 256 + v as u32);
+        queue::put(keys, mins, v, d);
     }
 }
 
@@ -68,8 +68,8 @@ fn note_loose(
     costs: &[u16],
     parent: &[u16; 256],
     dist: &[u32; 256],
-    keys: &mut [u32; 256],
-    mins: &mut [u32; 16],
+    keys: &mut [u64; 256],
+    mins: &mut [u64; 72],
 )
     requires { ⌜ Proper (table nodes root (now starts) (now ends) (now costs)) × Rooted (table nodes root (now starts) (now ends) (now costs)) (now parent) × Ready (table nodes root (now starts) (now ends) (now costs)) (now dist) (now keys) (now mins) ⌝ }
     ensures { λ _. ⌜ AllStand (table nodes root (now (starts .entry)) (now (ends .entry)) (now (costs .entry))) (now (parent .entry)) (now (dist .entry)) (now (keys .exit)) (now (mins .exit)) ⌝ }
@@ -97,8 +97,8 @@ fn note_hung_on(
     first: u16,
     parent: &[u16; 256],
     dist: &[u32; 256],
-    keys: &mut [u32; 256],
-    mins: &mut [u32; 16],
+    keys: &mut [u64; 256],
+    mins: &mut [u64; 72],
 )
     requires { ⌜ Proper (table nodes root (now starts) (now ends) (now costs)) × Rooted (table nodes root (now starts) (now ends) (now costs)) (now parent) × FirstOf (now starts) u first × StandBut (table nodes root (now starts) (now ends) (now costs)) (now parent) u (now dist) (now keys) (now mins) ⌝ }
     ensures { λ _. ⌜ AllStand (table nodes root (now (starts .entry)) (now (ends .entry)) (now (costs .entry))) (now (parent .entry)) (now (dist .entry)) (now (keys .exit)) (now (mins .exit)) ⌝ }
@@ -127,8 +127,8 @@ fn lift_noted(
     at: &[u16; 256],
     parent: &[u16; 256],
     dist: &mut [u32; 256],
-    keys: &mut [u32; 256],
-    mins: &mut [u32; 16],
+    keys: &mut [u64; 256],
+    mins: &mut [u64; 72],
 )
     requires { ⌜ Proper (table nodes root (now starts) (now ends) (now costs)) × Firsts (now starts) (now at) × Rooted (table nodes root (now starts) (now ends) (now costs)) (now parent) × AllStand (table nodes root (now starts) (now ends) (now costs)) (now parent) (now dist) (now keys) (now mins) ⌝ }
     ensures { λ _. ⌜ Lifted (table nodes root (now (starts .entry)) (now (ends .entry)) (now (costs .entry))) (now (parent .entry)) (now (dist .exit)) (now (keys .exit)) (now (mins .exit)) ⌝ }
@@ -165,8 +165,8 @@ pub fn lift(
     at: &[u16; 256],
     parent: &[u16; 256],
     dist: &mut [u32; 256],
-    keys: &mut [u32; 256],
-    mins: &mut [u32; 16],
+    keys: &mut [u64; 256],
+    mins: &mut [u64; 72],
 )
     requires { ⌜ Proper (table nodes root (now starts) (now ends) (now costs)) × Firsts (now starts) (now at) × Rooted (table nodes root (now starts) (now ends) (now costs)) (now parent) × Ready (table nodes root (now starts) (now ends) (now costs)) (now dist) (now keys) (now mins) ⌝ }
     ensures { λ _. ⌜ Lifted (table nodes root (now (starts .entry)) (now (ends .entry)) (now (costs .entry))) (now (parent .entry)) (now (dist .exit)) (now (keys .exit)) (now (mins .exit)) ⌝ }

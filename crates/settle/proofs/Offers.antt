@@ -11,9 +11,9 @@ use lib.ListN.{length, getD, set, length-set, List·getD-eq-default}
 use lib.Seq.{getD-set-same, getD-set-other}
 use Rattle.rules.specs.Net.{Usable, along}
 use Rattle.rules.specs.Columns.{Table, Proper, netOf, mostNodes, unreached}
-use Rattle.queue.specs.Queue.{empty, Queue, Rekeyed}
+use Rattle.queue.specs.Queue.{empty, keyOf, Queue, Rekeyed}
 use Rattle.rules.proofs.Logic.{getD-any}
-use Rattle.settle.specs.Afoot.{distAt, keyAt, keyOf, Keyed, idle, waits, Lined, Within, Begun, Calm, Partly, Offered, left, taken}
+use Rattle.settle.specs.Afoot.{distAt, keyAt, Keyed, idle, waits, Lined, Within, Begun, Calm, Partly, Offered, left, taken}
 
 -- ---- entries
 

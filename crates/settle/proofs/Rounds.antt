@@ -1,7 +1,7 @@
 -- The three loops: over the links that leave a node, over every link, and until nothing waits; and how they start.
 -- Assumes nothing.
 use mathlib.Core.Path.{_≡_, sym, _∙_}
-use mathlib.Core.Logic.{_⊎_, inl, inr, _≢_}
+use mathlib.Core.Logic.{_≢_}
 use mathlib.Core.List.{List}
 use Prim.Native.Nat.{ℕ, zero, suc, _+_, _-_, _%_, _≤_, _<_}
 use native.Mathlib.Omega.{arith}
@@ -13,10 +13,10 @@ use Rattle.rules.specs.Net.{Usable, at-root}
 use Rattle.rules.specs.Columns.{Table, Proper, netOf, table, mostNodes, unreached, noLink}
 use Rattle.rules.specs.Demands.{Narrow}
 use Rattle.rules.proofs.Judged.{legal, roomy}
-use Rattle.queue.specs.Queue.{empty, Stands, Least, Rekeyed}
+use Rattle.queue.specs.Queue.{empty, keyOf, Least, LeastKey, Rekeyed}
 use Rattle.queue.proofs.Laws.{least-key, queue-none}
 use Rattle.rules.proofs.Logic.{getD-any}
-use Rattle.settle.specs.Afoot.{NotFrom, distAt, keyAt, keyOf, Keyed, idle, waits, Lined, Begun, Partly, Afoot, Settled, weight, FirstOf}
+use Rattle.settle.specs.Afoot.{NotFrom, distAt, keyAt, Keyed, idle, waits, Lined, Begun, Partly, Afoot, Settled, weight, FirstOf}
 use Rattle.settle.specs.Finding.{foundAt, Alone}
 use Rattle.settle.proofs.Reach.{Sure, sums}
 use Rattle.settle.proofs.Offers.{inside, partly-fewer, OverLink, link-fell, partly-more, others-still, entry, key-falls, lined-taken}
@@ -104,21 +104,18 @@ pub record Chosen (dist keys : List ℕ) (u : ℕ) : Type 0 where
   pub near : distAt dist u < unreached
   pub waiting : keyAt keys u ≢ empty
 
-module _ {dist keys mins : List ℕ} (h : Lined dist keys mins) {key : ℕ} (least : Least mins 0 16 key) where
+module _ {dist keys mins : List ℕ} (h : Lined dist keys mins) {key : ℕ} (least : LeastKey mins key) where
   pub chosen : key ≢ empty → Chosen dist keys (key % 256)
-  chosen some = at (least-key (h .queue) least .one)
+  chosen some =
+      let s = least-key (h .queue) least in
+      let here = getD-any keys (s .place) empty 0 (omega (arith, s .not-behind, h .queue .keys-long)) in
+      waiting (s .place) (s .not-behind) (here ∙ s .here) (h .keyed (s .place))
     where
       waiting : (v : ℕ) → v < mostNodes → keyAt keys v ≡ key → Keyed (distAt dist v) (keyAt keys v) v → Chosen dist keys (key % 256)
       waiting v n e (idle q) = absurd (some (sym e ∙ q))
       waiting v n e (waits near q) =
           let node : key % 256 ≡ v = omega arith in
           rw node (record { is-node = n; near = near; waiting = λ q. some (sym e ∙ q) })
-
-      at : (key ≡ empty) ⊎ Stands keys 0 256 key → Chosen dist keys (key % 256)
-      at (inl e) = absurd (some e)
-      at (inr s) =
-          let here = getD-any keys (s .place) empty 0 (omega (arith, s .not-behind, h .queue .keys-long)) in
-          waiting (s .place) (s .not-behind) (here ∙ s .here) (h .keyed (s .place))
 
   pub none-waits : key ≡ empty → (v : ℕ) → keyAt keys v ≡ empty
   none-waits none v = at (h .keyed v)
@@ -161,7 +158,7 @@ module _ {t : Table} {dist keys mins : List ℕ} (p : Afoot t dist keys mins) {u
   pub lighter : weight dist keys' < weight dist keys
   lighter = rw (r .is-set) (weight-taken dist keys u in-keys (c .waiting) (c .is-node))
 
-pub settled : {t : Table} {dist keys mins : List ℕ} {key : ℕ} → Proper t → Narrow (t .costs) → Afoot t dist keys mins → Least mins 0 16 key → key ≡ empty
+pub settled : {t : Table} {dist keys mins : List ℕ} {key : ℕ} → Proper t → Narrow (t .costs) → Afoot t dist keys mins → LeastKey mins key → key ≡ empty
     → Settled t dist keys mins
 settled {t} {dist} {keys} {mins} {key} proper narrow p least none =
     let rest = none-waits (p .begun .lined) least none in
@@ -189,14 +186,14 @@ none-found e = rw e (length-replicate mostNodes noLink, filled mostNodes noLink)
 
 -- nothing waits
 pub lined-none : {dist : List ℕ} → length dist ≡ mostNodes → ((v : ℕ) → distAt dist v ≤ unreached)
-    → Lined dist (replicate mostNodes empty) (replicate 16 empty)
+    → Lined dist (replicate mostNodes empty) (replicate 72 empty)
 lined-none long most = record { queue = queue-none; long = long; most = most; keyed = λ v. idle (filled mostNodes empty v) }
 
 -- nothing waits, and no node is reached
 pub record Blank (dist keys mins : List ℕ) : Type 0 where
   pub dist-blank : dist ≡ replicate mostNodes unreached
   pub keys-blank : keys ≡ replicate mostNodes empty
-  pub mins-blank : mins ≡ replicate 16 empty
+  pub mins-blank : mins ≡ replicate 72 empty
 
 module _ {dist keys mins : List ℕ} (b : Blank dist keys mins) {root : ℕ} (is-node : root < mostNodes) where
   far : (v : ℕ) → distAt dist v ≡ unreached
@@ -211,21 +208,18 @@ module _ {dist keys mins : List ℕ} (b : Blank dist keys mins) {root : ℕ} (is
   offered-zero : 0 < getD dist root 0
   offered-zero = omega (arith, entry blank-lined is-node, far root)
 
-  zero-key : keyOf 0 root ≡ root
-  zero-key = omega arith
+  pub root-key-falls : keyOf 0 root ≤ getD keys root 0
+  root-key-falls = key-falls blank-lined is-node offered-zero
 
-  pub root-key-falls : root ≤ getD keys root 0
-  root-key-falls = rw zero-key at (key-falls blank-lined is-node offered-zero)
-
-  module _ {keys' mins' : List ℕ} (r : Rekeyed keys root root keys' mins') where
+  module _ {keys' mins' : List ℕ} (r : Rekeyed keys root (keyOf 0 root) keys' mins') where
     lined-seed : Lined (set dist root 0) keys' mins'
-    lined-seed = lined-taken blank-lined is-node offered-zero (rw zero-key r)
+    lined-seed = lined-taken blank-lined is-node offered-zero r
 
     root-zero : distAt (set dist root 0) root ≡ 0
     root-zero = getD-set-same dist root 0 unreached (omega (arith, blank-lined .long))
 
-    root-waits : keyAt keys' root ≡ root
-    root-waits = rw (r .is-set) (getD-set-same keys root root empty (omega (arith, blank-lined .queue .keys-long)))
+    root-waits : keyAt keys' root ≡ keyOf 0 root
+    root-waits = rw (r .is-set) (getD-set-same keys root (keyOf 0 root) empty (omega (arith, blank-lined .queue .keys-long)))
 
     pub seeded-alone : Alone root (set dist root 0)
     seeded-alone = record { far = λ v d. getD-set-other dist root v 0 unreached d ∙ far v }

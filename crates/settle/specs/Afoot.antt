@@ -11,7 +11,7 @@ use Rattle.rules.specs.Net.{Net, Usable, Walk}
 use Rattle.rules.specs.Keep.{one}
 use Rattle.rules.specs.Columns.{Table, netOf, mostNodes, mostLinks, unreached}
 use Rattle.rules.specs.Sums.{Sums}
-use Rattle.queue.specs.Queue.{empty, Queue}
+use Rattle.queue.specs.Queue.{empty, keyOf, Queue}
 
 -- node v's distance and its key; v has the mark and no key where there is no such node
 abbrev pub distAt : List ℕ → ℕ → ℕ
@@ -20,10 +20,7 @@ distAt dist v = getD dist v unreached
 abbrev pub keyAt : List ℕ → ℕ → ℕ
 keyAt keys v = getD keys v empty
 
--- a waiting node's key is its distance and its number
-abbrev pub keyOf : ℕ → ℕ → ℕ
-keyOf distance node = distance * 256 + node
-
+-- a node doesn't wait, or waits with its distance
 pub data Keyed (distance key node : ℕ) : Type 0 where
   idle : key ≡ empty → Keyed distance key node
   waits : distance < unreached → key ≡ keyOf distance node → Keyed distance key node

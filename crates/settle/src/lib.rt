@@ -38,8 +38,8 @@ fn usable(cost: u32) -> bool
 // last.
 fn offer_less(
     dist: &mut [u32; 256],
-    keys: &mut [u32; 256],
-    mins: &mut [u32; 16],
+    keys: &mut [u64; 256],
+    mins: &mut [u64; 72],
     found: &mut [u16; 256],
     end: u16,
     sum: u32,
@@ -54,7 +54,7 @@ fn offer_less(
         if usable(cost) {
             dist[node] = sum;
             found[node] = link;
-            queue::put(keys, mins, node, sum * 256 + end as u32);
+            queue::put(keys, mins, node, sum);
         }
     }
 }
@@ -62,8 +62,8 @@ fn offer_less(
 // The same, and a sum that equals the distance may lower the link found.
 fn offer(
     dist: &mut [u32; 256],
-    keys: &mut [u32; 256],
-    mins: &mut [u32; 16],
+    keys: &mut [u64; 256],
+    mins: &mut [u64; 72],
     found: &mut [u16; 256],
     end: u16,
     sum: u32,
@@ -95,8 +95,8 @@ fn offer_from(
     u: usize,
     first: u16,
     dist: &mut [u32; 256],
-    keys: &mut [u32; 256],
-    mins: &mut [u32; 16],
+    keys: &mut [u64; 256],
+    mins: &mut [u64; 72],
     found: &mut [u16; 256],
 )
     requires { ⌜ Proper (table nodes root (now starts) (now ends) (now costs)) × Partly (table nodes root (now starts) (now ends) (now costs)) (NotFrom (now starts) u) (now dist) (now keys) (now mins) × FirstOf (now starts) u first × (distAt (now dist) u < unreached) × (length (now found) ≡ mostNodes) ⌝ }
@@ -146,8 +146,8 @@ pub fn settle(
     costs: &[u16],
     at: &[u16; 256],
     dist: &mut [u32; 256],
-    keys: &mut [u32; 256],
-    mins: &mut [u32; 16],
+    keys: &mut [u64; 256],
+    mins: &mut [u64; 72],
     found: &mut [u16; 256],
     guesses: &mut [u16; 256],
 )
@@ -186,8 +186,8 @@ pub fn offer_all(
     ends: &[u16],
     costs: &[u16],
     dist: &mut [u32; 256],
-    keys: &mut [u32; 256],
-    mins: &mut [u32; 16],
+    keys: &mut [u64; 256],
+    mins: &mut [u64; 72],
     found: &mut [u16; 256],
 )
     requires { ⌜ Proper (table nodes root (now starts) (now ends) (now costs)) × Begun (table nodes root (now starts) (now ends) (now costs)) (now dist) (now keys) (now mins) × (now found ≡ replicate 256 noLink) ⌝ }
@@ -204,10 +204,10 @@ pub fn offer_all(
 }
 
 // Only the root is reached, and waits.
-pub fn seed(root: usize, dist: &mut [u32; 256], keys: &mut [u32; 256], mins: &mut [u32; 16])
-    requires { ⌜ (root < 256) × (now dist ≡ replicate 256 unreached) × (now keys ≡ replicate 256 empty) × (now mins ≡ replicate 16 empty) ⌝ }
+pub fn seed(root: usize, dist: &mut [u32; 256], keys: &mut [u64; 256], mins: &mut [u64; 72])
+    requires { ⌜ (root < 256) × (now dist ≡ replicate 256 unreached) × (now keys ≡ replicate 256 empty) × (now mins ≡ replicate 72 empty) ⌝ }
     ensures { λ _. ⌜ ((nodes : ℕ) (starts ends costs : List ℕ) → Afoot (table nodes root starts ends costs) (now (dist .exit)) (now (keys .exit)) (now (mins .exit))) × Alone root (now (dist .exit)) ⌝ }
 {
     dist[root] = 0;
-    queue::put(keys, mins, root, root as u32);
+    queue::put(keys, mins, root, 0);
 }

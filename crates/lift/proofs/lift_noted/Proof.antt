@@ -20,9 +20,6 @@ least-requires c κs = search needs
 loop-holds : tie.Need-loop-holds Inv-loop μ-loop
 loop-holds c = record { stands = c .before .before .before .before .before .pre .3; least = c .least .ensures }
 
-cast-u : tie.Need-cast-u Inv-loop μ-loop
-cast-u c = search needs
-
 take-requires : tie.Need-take-requires Inv-loop μ-loop
 take-requires c κs = (c .before .before .before .loop .inv .stands .lined .queue, omega arith)
 
@@ -68,7 +65,6 @@ lift-noted-spec =
     μ-loop
     least-requires
     loop-holds
-    cast-u
     take-requires
     mul-dist
     element-write-dist

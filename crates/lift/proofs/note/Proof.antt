@@ -11,15 +11,6 @@ mul-d c = search needs
 element-copy-out-d : tie.Need-element-copy-out-d
 element-copy-out-d c = search needs
 
-mul-put : tie.Need-mul-put
-mul-put c = search needs
-
-cast-put : tie.Need-cast-put
-cast-put c = search needs
-
-add-put : tie.Need-add-put
-add-put c = search needs
-
 put-requires : tie.Need-put-requires
 put-requires c κs =
     let start = c .before .before .before .before in
@@ -38,4 +29,4 @@ returns-2 c =
 pub note-spec : {M : Type 1} → statement M
 note-spec =
     tie.close
-    (tie.spec mul-d element-copy-out-d mul-put cast-put add-put put-requires returns returns-2)
+    (tie.spec mul-d element-copy-out-d put-requires returns returns-2)

@@ -7,7 +7,7 @@ use borrow.Author.Needs.{needs}
 use borrow.Author.Tests.{ltb-true, ltb-false}
 use Rattle.settle.specs.Afoot.{left, taken}
 use Rattle.settle.specs.Finding.{passed, written}
-use Rattle.settle.proofs.Offers.{entry, less-than-mark, key-falls, lined-taken}
+use Rattle.settle.proofs.Offers.{entry, key-falls, lined-taken}
 use Rattle.settle.proofs.offer_less.Statement.{statement}
 use Rattle.settle.proofs.offer_less.Tie as tie
 
@@ -31,16 +31,6 @@ mul-found c = search needs
 
 element-write-found : tie.Need-element-write-found
 element-write-found c = search needs
-
-mul-put : tie.Need-mul-put
-mul-put c =
-    let start = c .before .before .before .before .before .before in
-    omega (arith, less-than-mark (start .pre .0) (start .pre .1) (c .before .before .before .before .if1 .taken))
-
-add-put : tie.Need-add-put
-add-put c =
-    let start = c .before .before .before .before .before .before in
-    omega (arith, less-than-mark (start .pre .0) (start .pre .1) (c .before .before .before .before .if1 .taken), start .pre .1)
 
 put-requires : tie.Need-put-requires
 put-requires c κs =
@@ -82,8 +72,6 @@ offer-less-spec =
     element-write-dist
     mul-found
     element-write-found
-    mul-put
-    add-put
     put-requires
     returns
     returns-2

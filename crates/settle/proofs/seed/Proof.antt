@@ -13,9 +13,6 @@ mul-dist c = search needs
 element-write-dist : tie.Need-element-write-dist
 element-write-dist c = search needs
 
-cast-put : tie.Need-cast-put
-cast-put c = search needs
-
 put-requires : tie.Need-put-requires
 put-requires c κs =
     let start = c .before .before in
@@ -27,4 +24,4 @@ returns c =
     (seeded (blank start) (start .pre .0) (c .put .ensures), seeded-alone (blank start) (start .pre .0) (c .put .ensures))
 
 pub seed-spec : {M : Type 1} → statement M
-seed-spec = tie.close (tie.spec mul-dist element-write-dist cast-put put-requires returns)
+seed-spec = tie.close (tie.spec mul-dist element-write-dist put-requires returns)

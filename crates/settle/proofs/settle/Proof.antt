@@ -7,7 +7,7 @@ use lib.ListN.{length, length-set}
 use borrow.Author.Needs.{needs}
 use Rattle.rules.specs.Columns.{table, mostNodes}
 use Rattle.rules.specs.Demands.{Narrow}
-use Rattle.queue.specs.Queue.{Least}
+use Rattle.queue.specs.Queue.{LeastKey}
 use Rattle.settle.specs.Afoot.{Every, Afoot, weight}
 use Rattle.settle.specs.Finding.{GoesOn}
 use Rattle.settle.proofs.Finds.{on-none, on-then, on-taken, comes}
@@ -18,7 +18,7 @@ use Rattle.settle.proofs.settle.Tie as tie
 
 abbrev Inv-loop : tie.InvT-loop
 Inv-loop nodes root starts ends costs at dist₀ keys₀ mins₀ found₀ guesses₀ key₀ dist keys mins found guesses key =
-    Afoot (table nodes root starts ends costs) dist keys mins × Least mins 0 16 key
+    Afoot (table nodes root starts ends costs) dist keys mins × LeastKey mins key
     × GoesOn (table nodes root starts ends costs) Every dist₀ keys₀ found₀ Every dist keys found
     × (length guesses ≡ mostNodes)
 
@@ -36,9 +36,6 @@ loop-holds : tie.Need-loop-holds Inv-loop μ-loop
 loop-holds c =
     let start = c .before .before .before .before .before in
     (start .pre .2, c .least .ensures, on-none (start .pre .3), start .pre .4)
-
-cast-u : tie.Need-cast-u Inv-loop μ-loop
-cast-u c = search needs
 
 take-requires : tie.Need-take-requires Inv-loop μ-loop
 take-requires c κs = (c .before .before .before .loop .inv .0 .begun .lined .queue, node (c .before .before) .is-node)
@@ -105,7 +102,6 @@ settle-spec =
     μ-loop
     least-requires
     loop-holds
-    cast-u
     take-requires
     mul-guess-by
     element-copy-out-guess-by
