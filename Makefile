@@ -67,10 +67,15 @@ records-test:
 streams: records program
 	@tests/streams.sh target/rust/release/records target/bin/routes
 
-# What the programs of cases must print, worked out again by other calculations.
-cases:
-	@python3 -B tests/judging.py | cmp - crates/judging/stdout
-	@python3 -B tests/changing.py | cmp - crates/changing/stdout
+# The cases through the C functions (rust/src/bin/cases): what is printed is what tests/ has, and what tests/ has is what
+# other calculations give.
+cases: archive
+	@cd rust && cargo build --offline --quiet --release --bin cases
+	@set -e; for part in judging changing; do \
+	    target/rust/release/cases $$part | cmp - tests/$$part.out; \
+	    python3 -B tests/$$part.py | cmp - tests/$$part.out; \
+	    echo "$$part: $$(wc -l <tests/$$part.out) cases, none differ"; \
+	done
 
 clean:
 	rm -rf target

@@ -1,17 +1,13 @@
 #!/usr/bin/env python3
-"""What crates/changing must print, worked out from the words of the scope and from nothing of the product.
+"""What `cases changing` must print, worked out from the words of the scope and from nothing of the product.
 
-    tests/changing.py > crates/changing/stdout
+    tests/changing.py > tests/changing.out
 
 At every batch the distances are found from nothing, by relaxing every link until nothing moves; then the rules for
 parents, first links, changed nodes and refusals are gone through as they are written, one node and one link at a time.
-Judging a table and a tree is taken from tests/judging.py, whose own lines are not wanted here.
+Judging a table and a tree is taken from tests/judging.py.
 """
-import contextlib
-import io
-
-with contextlib.redirect_stdout(io.StringIO()):
-    from judging import MARK, NONE, PIER, TOP, judge_links, judge_tree, rows
+from judging import MARK, NONE, PIER, TOP, judge_links, judge_tree, rows
 
 EMPTY = (MARK, NONE, NONE)
 ALL_EMPTY = [EMPTY] * 256
@@ -204,87 +200,107 @@ def from_p1(name, links, costs, room):
 
 # The pier network
 
-run = Run(4, 0, *PIER).fresh("P1").step("P2", [3, 0], [5, 2], 4).fresh("P3", keep=False)
-run.step("P4", [3], [6], 4).step("P5", [3], [5], 4)
-from_p1("P6", [1], [6], 4)
-from_p1("P7", [1], [5], 4)
-from_p1("P8", [0], [0], 4)
-from_p1("P9", [6], [0], 4)
-from_p1("P10", [7], [0], 4)
-from_p1("P11", [3, 0, 3], [5, 2, 6], 4)
 
-lone = Run(1, 0, [], [], []).fresh("P12").ask("P12 path", 0, 0)
-lone.step("P12 empty batch", [], [], 1)
-lone.step("P12 no room", [], [], 0)
-lone.step("P12 no such link", [0], [1], 1)
+def pier_cases():
+    run = Run(4, 0, *PIER).fresh("P1").step("P2", [3, 0], [5, 2], 4).fresh("P3", keep=False)
+    run.step("P4", [3], [6], 4).step("P5", [3], [5], 4)
+    from_p1("P6", [1], [6], 4)
+    from_p1("P7", [1], [5], 4)
+    from_p1("P8", [0], [0], 4)
+    from_p1("P9", [6], [0], 4)
+    from_p1("P10", [7], [0], 4)
+    from_p1("P11", [3, 0, 3], [5, 2, 6], 4)
 
-from_p1("empty batch", [], [], 6)
-from_p1("one unchanged cost", [3], [2], 6)
-from_p1("all costs unchanged", [7, 6, 5, 4, 3, 2, 1, 0], COSTS[::-1], 6)
-from_p1("into the root cheaper", [2, 4], [1, 1], 6)
-from_p1("into the root down", [4, 2], [0, 0], 6)
 
-run = at_pier()
-run.step("apart", [1, 0], [0, 0], 4)
-run.step("apart still", [3, 6], [9, 9], 4)
-run.step("together", [0, 1], [4, 7], 4)
-run.step("as before", [3, 6], [2, 1], 4)
-run.step("a pair cut off", [1, 3], [0, 0], 4)
-run.step("the pair by link 1", [1], [7], 4)
-run.step("and link 3 again", [3], [3], 4)
-run.step("all down", range(8), [0] * 8, 4)
-run.step("all up", range(8), [65_535] * 8, 4)
+def lone_node():
+    lone = Run(1, 0, [], [], []).fresh("P12").ask("P12 path", 0, 0)
+    lone.step("P12 empty batch", [], [], 1)
+    lone.step("P12 no room", [], [], 0)
+    lone.step("P12 no such link", [0], [1], 1)
+
+
+def quiet_batches():
+    from_p1("empty batch", [], [], 6)
+    from_p1("one unchanged cost", [3], [2], 6)
+    from_p1("all costs unchanged", [7, 6, 5, 4, 3, 2, 1, 0], COSTS[::-1], 6)
+    from_p1("into the root cheaper", [2, 4], [1, 1], 6)
+    from_p1("into the root down", [4, 2], [0, 0], 6)
+
+
+def apart_and_together():
+    run = at_pier()
+    run.step("apart", [1, 0], [0, 0], 4)
+    run.step("apart still", [3, 6], [9, 9], 4)
+    run.step("together", [0, 1], [4, 7], 4)
+    run.step("as before", [3, 6], [2, 1], 4)
+    run.step("a pair cut off", [1, 3], [0, 0], 4)
+    run.step("the pair by link 1", [1], [7], 4)
+    run.step("and link 3 again", [3], [3], 4)
+    run.step("all down", range(8), [0] * 8, 4)
+    run.step("all up", range(8), [65_535] * 8, 4)
+
 
 # Other networks
 
-run = Run(4, 0, [0, 0, 1, 1, 2], [1, 1, 2, 2, 3], [6, 5, 1, 1, 1]).fresh("parallel")
-run.step("the first as cheap", [0], [5], 6)
-run.fresh("built then", keep=False)
-run.step("the first raised", [0], [9], 6)
-run.step("the first as cheap again", [0], [5], 6)
-run.step("the second raised", [1], [6], 6)
-run.step("the first of the other two raised", [2], [2], 6)
-run.step("the other two change places", [3, 2], [4, 3], 6)
-run.step("the other two down", [2, 3], [0, 0], 6)
-run.step("the second of them up", [3], [8], 6)
-run.step("the first of them as cheap", [2], [8], 6)
 
-run = Run(5, 0, [0, 0, 0, 1, 2, 3], [1, 2, 3, 4, 4, 4], [2] * 6).fresh("fork")
-run.step("link 3 raised", [3], [3], 5)
-run.step("link 3 back", [3], [2], 5)
-run.step("link 1 cheaper, link 4 as much dearer", [1, 4], [1, 3], 5)
-run.step("link 2 cheaper", [2], [1], 5)
-run.step("link 0 cheaper too and link 4 again", [4, 0], [2, 1], 5)
+def parallel():
+    run = Run(4, 0, [0, 0, 1, 1, 2], [1, 1, 2, 2, 3], [6, 5, 1, 1, 1]).fresh("parallel")
+    run.step("the first as cheap", [0], [5], 6)
+    run.fresh("built then", keep=False)
+    run.step("the first raised", [0], [9], 6)
+    run.step("the first as cheap again", [0], [5], 6)
+    run.step("the second raised", [1], [6], 6)
+    run.step("the first of the other two raised", [2], [2], 6)
+    run.step("the other two change places", [3, 2], [4, 3], 6)
+    run.step("the other two down", [2, 3], [0, 0], 6)
+    run.step("the second of them up", [3], [8], 6)
+    run.step("the first of them as cheap", [2], [8], 6)
 
-run = Run(3, 0, [0, 0, 1, 2], [1, 2, 2, 1], [65_535, 65_535, 65_535, 1]).fresh("dear")
-run.step("link 1 down", [1], [0], 3)
-run.step("link 1 for link 0", [0, 1], [0, 65_535], 3)
-run.step("link 3 dear", [3], [65_535], 3)
 
-run = Run(4, 3, *PIER).fresh("root 3").ask("root 3, path to 0", 0, 3).ask("root 3, path to 3", 3, 0)
-run.step("into root 3 down", [6], [0], 6)
-run.step("link 2 as dear as link 4", [2], [5], 6)
-run.step("link 2 dearer", [2], [6], 6)
-run.ask("path to 0 by link 4", 0, 3)
-run.step("out of root 3 down", [7], [0], 6)
-run.ask("root 3, 0 unreached", 0, 6)
-run.table = (4, 0, STARTS, ENDS)
-run.step("another root than the tree's", [3], [5], 4)
+def fork():
+    run = Run(5, 0, [0, 0, 0, 1, 2, 3], [1, 2, 3, 4, 4, 4], [2] * 6).fresh("fork")
+    run.step("link 3 raised", [3], [3], 5)
+    run.step("link 3 back", [3], [2], 5)
+    run.step("link 1 cheaper, link 4 as much dearer", [1, 4], [1, 3], 5)
+    run.step("link 2 cheaper", [2], [1], 5)
+    run.step("link 0 cheaper too and link 4 again", [4, 0], [2, 1], 5)
+
+
+def dear():
+    run = Run(3, 0, [0, 0, 1, 2], [1, 2, 2, 1], [65_535, 65_535, 65_535, 1]).fresh("dear")
+    run.step("link 1 down", [1], [0], 3)
+    run.step("link 1 for link 0", [0, 1], [0, 65_535], 3)
+    run.step("link 3 dear", [3], [65_535], 3)
+
+
+def root_3():
+    run = Run(4, 3, *PIER).fresh("root 3").ask("root 3, path to 0", 0, 3).ask("root 3, path to 3", 3, 0)
+    run.step("into root 3 down", [6], [0], 6)
+    run.step("link 2 as dear as link 4", [2], [5], 6)
+    run.step("link 2 dearer", [2], [6], 6)
+    run.ask("path to 0 by link 4", 0, 3)
+    run.step("out of root 3 down", [7], [0], 6)
+    run.ask("root 3, 0 unreached", 0, 6)
+    run.table = (4, 0, STARTS, ENDS)
+    run.step("another root than the tree's", [3], [5], 4)
+
 
 # Refused
 
-from_p1("no such link", [3, 8], [5, 5], 6)
-from_p1("no link at all", [65_535], [5], 6)
-from_p1("a link again", [3, 3], [5, 5], 6)
-from_p1("8 before 9", [3, 8, 3], [5, 5, 6], 6)
-from_p1("9 before 8", [3, 3, 8], [5, 6, 5], 6)
-from_p1("no such link twice", [8, 8], [5, 6], 6)
-from_p1("a list too short", [3, 0], [5, 2], 3)
-from_p1("too short for no changes", [], [], 3)
-from_p1("a list long enough", [3, 0], [5, 2], 4)
-from_p1("a list with places to spare", [3, 0], [5, 2], 5)
-from_p1("8 before 12", [9], [5], 0)
-from_p1("9 before 12", [1, 1], [5, 5], 3)
+
+def wrong_rows():
+    from_p1("no such link", [3, 8], [5, 5], 6)
+    from_p1("no link at all", [65_535], [5], 6)
+    from_p1("a link again", [3, 3], [5, 5], 6)
+    from_p1("8 before 9", [3, 8, 3], [5, 5, 6], 6)
+    from_p1("9 before 8", [3, 3, 8], [5, 6, 5], 6)
+    from_p1("no such link twice", [8, 8], [5, 6], 6)
+    from_p1("a list too short", [3, 0], [5, 2], 3)
+    from_p1("too short for no changes", [], [], 3)
+    from_p1("a list long enough", [3, 0], [5, 2], 4)
+    from_p1("a list with places to spare", [3, 0], [5, 2], 5)
+    from_p1("8 before 12", [9], [5], 0)
+    from_p1("9 before 12", [1, 1], [5, 5], 3)
 
 
 def changed_rows(*changed):
@@ -299,21 +315,24 @@ def with_table(name, nodes, root, starts, ends):
     run.ask(name, 300, 0, changed_rows((1, 9, 9, 9)))
 
 
-with_table("0 nodes", 0, 0, STARTS, ENDS)
-with_table("257 nodes", 257, 0, STARTS, ENDS)
-with_table("root at the count", 4, 4, STARTS, ENDS)
-with_table("a start too few", 4, 0, [0] * 7, ENDS)
-with_table("an end too few", 4, 0, STARTS, [0] * 7)
-with_table("a cost too many", 4, 0, [0] * 7, [0] * 7)
-with_table("3 nodes only", 3, 0, STARTS, ENDS)
+def wrong_sizes():
+    with_table("0 nodes", 0, 0, STARTS, ENDS)
+    with_table("257 nodes", 257, 0, STARTS, ENDS)
+    with_table("root at the count", 4, 4, STARTS, ENDS)
+    with_table("a start too few", 4, 0, [0] * 7, ENDS)
+    with_table("an end too few", 4, 0, STARTS, [0] * 7)
+    with_table("a cost too many", 4, 0, [0] * 7, [0] * 7)
+    with_table("3 nodes only", 3, 0, STARTS, ENDS)
 
-FALLING = [0, 0, 1, 0, 2, 2, 2, 3]
-TO_ITSELF = [1, 2, 0, 2, 2, 1, 3, 2]
-with_table("a start too high", 4, 0, [0, 0, 1, 1, 2, 2, 2, 4], ENDS)
-with_table("a start that falls", 4, 0, FALLING, ENDS)
-with_table("an end too high", 4, 0, STARTS, [1, 2, 4, 2, 0, 1, 3, 2])
-with_table("a link to itself", 4, 0, STARTS, TO_ITSELF)
-with_table("4 behind 5", 4, 0, FALLING, TO_ITSELF)
+
+def wrong_links():
+    falling = [0, 0, 1, 0, 2, 2, 2, 3]
+    to_itself = [1, 2, 0, 2, 2, 1, 3, 2]
+    with_table("a start too high", 4, 0, [0, 0, 1, 1, 2, 2, 2, 4], ENDS)
+    with_table("a start that falls", 4, 0, falling, ENDS)
+    with_table("an end too high", 4, 0, STARTS, [1, 2, 4, 2, 0, 1, 3, 2])
+    with_table("a link to itself", 4, 0, STARTS, to_itself)
+    with_table("4 behind 5", 4, 0, falling, to_itself)
 
 
 def with_tree(name, tree):
@@ -324,53 +343,90 @@ def with_tree(name, tree):
     run.ask(name, 4, 0, tree)
 
 
-with_tree("an empty tree", ALL_EMPTY)
-with_tree("P2's tree", changed_rows((1, 2, 0, 0), (2, 7, 3, 0), (3, 8, 6, 0)))
-with_tree("node 2 nearer", changed_rows((2, 5, 3, 0)))
-with_tree("node 3 with another first", changed_rows((3, 7, 6, 1)))
-with_tree("node 255 reached", changed_rows((255, 8, NONE, NONE)))
-with_tree("node 2 at the top", changed_rows((2, TOP, 3, 0), (3, 0, 6, 0)))
+def wrong_trees():
+    with_tree("an empty tree", ALL_EMPTY)
+    with_tree("P2's tree", changed_rows((1, 2, 0, 0), (2, 7, 3, 0), (3, 8, 6, 0)))
+    with_tree("node 2 nearer", changed_rows((2, 5, 3, 0)))
+    with_tree("node 3 with another first", changed_rows((3, 7, 6, 1)))
+    with_tree("node 255 reached", changed_rows((255, 8, NONE, NONE)))
+    with_tree("node 2 at the top", changed_rows((2, TOP, 3, 0), (3, 0, 6, 0)))
+
 
 # Paths
 
-run = at_pier()
-run.ask("path to the root", 0, 6)
-run.ask("path to the root, no list", 0, 0)
-run.ask("path to 1", 1, 6)
-run.ask("path to 2", 2, 6)
-run.ask("path to 3", 3, 6)
-run.ask("just long enough for 1", 1, 1)
-run.ask("too short for 1", 1, 0)
-run.ask("just long enough for 3", 3, 3)
-run.ask("too short for 3", 3, 2)
-run.ask("asked at the count", 4, 6)
-run.ask("asked past all rows", 256, 6)
-run.ask("asked as far as a word goes", 2**64 - 1, 6)
-run.ask("10 before 12", 4, 0)
 
-run = at_pier().step("link 6 down", [6], [0], 4)
-run.ask("path to 3", 3, 6)
-run.ask("11 before 12", 3, 0)
-run.ask("path to 2 still", 2, 6)
+def paths():
+    run = at_pier()
+    run.ask("path to the root", 0, 6)
+    run.ask("path to the root, no list", 0, 0)
+    run.ask("path to 1", 1, 6)
+    run.ask("path to 2", 2, 6)
+    run.ask("path to 3", 3, 6)
+    run.ask("just long enough for 1", 1, 1)
+    run.ask("too short for 1", 1, 0)
+    run.ask("just long enough for 3", 3, 3)
+    run.ask("too short for 3", 3, 2)
+    run.ask("asked at the count", 4, 6)
+    run.ask("asked past all rows", 256, 6)
+    run.ask("asked as far as a word goes", 2**64 - 1, 6)
+    run.ask("10 before 12", 4, 0)
+
+
+def unreached():
+    run = at_pier().step("link 6 down", [6], [0], 4)
+    run.ask("path to 3", 3, 6)
+    run.ask("11 before 12", 3, 0)
+    run.ask("path to 2 still", 2, 6)
+
 
 # Long batches, tables and paths
 
-run = Run(2, 0, [0] * 300, [1] * 300, [7] * 300, long=1).fresh("300 links")
-run.step("257 rows", range(257), [9] * 257, 2)
-run.step("6 before 7", range(257), [9] * 257, 2, tree=rows([(0, NONE, NONE), (8, 0, 0)]), keep=False)
-run.step("7 before 9 and 12", [*range(255), 0, 256], [9] * 257, 1)
-run.step("256 rows", range(256), [9] * 256, 2)
-run.step("8 in row 255", [*range(255), 300], [9] * 256, 2)
-run.step("9 in row 255", [*range(255), 0], [9] * 256, 2)
-run.step("link 299 named", [*range(255), 299], [5] * 256, 2)
 
-run = Run(2, 0, [0] * 4097, [1] * 4097, [7] * 4097, long=1).fresh("4097 links")
-tree = rows([(0, NONE, NONE), (7, 0, 0)])
-run.step("4097 links", [0], [8], 2, tree).ask("4097 links", 1, 6, tree)
+def many_rows():
+    run = Run(2, 0, [0] * 300, [1] * 300, [7] * 300, long=1).fresh("300 links")
+    run.step("257 rows", range(257), [9] * 257, 2)
+    run.step("6 before 7", range(257), [9] * 257, 2, tree=rows([(0, NONE, NONE), (8, 0, 0)]), keep=False)
+    run.step("7 before 9 and 12", [*range(255), 0, 256], [9] * 257, 1)
+    run.step("256 rows", range(256), [9] * 256, 2)
+    run.step("8 in row 255", [*range(255), 300], [9] * 256, 2)
+    run.step("9 in row 255", [*range(255), 0], [9] * 256, 2)
+    run.step("link 299 named", [*range(255), 299], [5] * 256, 2)
 
-run = Run(256, 0, range(255), range(1, 256), [65_535] * 255, long=255).fresh("chain")
-run.long_ask("chain's path", 255)
-run.long_ask("a list too short for it", 254)
-run.step("link 0 to 1", [0], [1], 256)
-run.step("link 0 dear", [0], [65_535], 256)
-run.step("link 0 down", [0], [0], 256)
+
+def too_many_links():
+    run = Run(2, 0, [0] * 4097, [1] * 4097, [7] * 4097, long=1).fresh("4097 links")
+    tree = rows([(0, NONE, NONE), (7, 0, 0)])
+    run.step("4097 links", [0], [8], 2, tree).ask("4097 links", 1, 6, tree)
+
+
+def along_chain():
+    run = Run(256, 0, range(255), range(1, 256), [65_535] * 255, long=255).fresh("chain")
+    run.long_ask("chain's path", 255)
+    run.long_ask("a list too short for it", 254)
+    run.step("link 0 to 1", [0], [1], 256)
+    run.step("link 0 dear", [0], [65_535], 256)
+    run.step("link 0 down", [0], [0], 256)
+
+
+def main():
+    pier_cases()
+    lone_node()
+    quiet_batches()
+    apart_and_together()
+    parallel()
+    fork()
+    dear()
+    root_3()
+    wrong_rows()
+    wrong_sizes()
+    wrong_links()
+    wrong_trees()
+    paths()
+    unreached()
+    many_rows()
+    too_many_links()
+    along_chain()
+
+
+if __name__ == "__main__":
+    main()

@@ -1,7 +1,7 @@
 #!/usr/bin/env python3
-"""What crates/judging must print, worked out from the words of the scope and from nothing of the product.
+"""What `cases judging` must print, worked out from the words of the scope and from nothing of the product.
 
-    tests/judging.py > crates/judging/stdout
+    tests/judging.py > tests/judging.out
 
 Whole numbers, lists and the rules as they are written, one node and one link at a time.
 """
@@ -71,82 +71,118 @@ def at_pier(name, *changed):
     say(name, judge_tree(4, 0, *PIER, rows(P1, *changed)))
 
 
-at_pier("pier")
-at_pier("root at 1", (0, 1, NONE, NONE))
-at_pier("root unreached", (0, MARK, NONE, NONE))
-at_pier("node 1 nearer", (1, 3, 0, 0))
-at_pier("node 1 farther", (1, 5, 0, 0))
-at_pier("node 2 nearer", (2, 5, 3, 0))
-at_pier("node 2 farther", (2, 7, 3, 0))
-at_pier("node 3 nearer", (3, 6, 6, 0))
-at_pier("node 3 farther", (3, 8, 6, 0))
-at_pier("node 3 unreached with links", (3, MARK, 6, 0))
-at_pier("node 3 unreached without", (3, MARK, NONE, NONE))
-at_pier("node 4 reached", (4, 8, NONE, NONE))
-at_pier("node 255 reached", (255, 0, NONE, NONE))
+def damaged_distances():
+    at_pier("pier")
+    at_pier("root at 1", (0, 1, NONE, NONE))
+    at_pier("root unreached", (0, MARK, NONE, NONE))
+    at_pier("node 1 nearer", (1, 3, 0, 0))
+    at_pier("node 1 farther", (1, 5, 0, 0))
+    at_pier("node 2 nearer", (2, 5, 3, 0))
+    at_pier("node 2 farther", (2, 7, 3, 0))
+    at_pier("node 3 nearer", (3, 6, 6, 0))
+    at_pier("node 3 farther", (3, 8, 6, 0))
+    at_pier("node 3 unreached with links", (3, MARK, 6, 0))
+    at_pier("node 3 unreached without", (3, MARK, NONE, NONE))
+    at_pier("node 4 reached", (4, 8, NONE, NONE))
+    at_pier("node 255 reached", (255, 0, NONE, NONE))
 
-at_pier("root with a parent", (0, 0, 2, NONE))
-at_pier("root with a first", (0, 0, NONE, 0))
-at_pier("node 1 by link 5", (1, 4, 5, 0))
-at_pier("node 1 without a parent", (1, 4, NONE, 0))
-at_pier("node 2 by link 1", (2, 6, 1, 0))
-at_pier("node 2 by link 8", (2, 6, 8, 0))
-at_pier("node 3 by link 3", (3, 7, 3, 0))
-at_pier("node 1 first 1", (1, 4, 0, 1))
-at_pier("node 2 first 3", (2, 6, 3, 3))
-at_pier("node 3 first 6", (3, 7, 6, 6))
-at_pier("node 3 without a first", (3, 7, 6, NONE))
-at_pier("node 4 with a parent", (4, MARK, 6, NONE))
-at_pier("node 200 with a first", (200, MARK, NONE, 0))
 
-at_pier("node 1 at the top", (1, TOP, 0, 0))
-at_pier("node 2 at the top", (2, TOP, 3, 0))
-at_pier("node 3 at the top", (3, TOP, 6, 0))
-at_pier("node 2 wraps to node 3", (2, TOP, 3, 0), (3, 0, 6, 0))
-at_pier("node 2 one less", (2, TOP - 1, 3, 0), (3, TOP, 6, 0))
-at_pier("node 2 below the mark", (2, MARK - 1, 3, 0), (3, MARK, 6, 0))
-at_pier("node 3 at the mark plus 1", (3, MARK + 1, 6, 0))
+def damaged_links():
+    at_pier("root with a parent", (0, 0, 2, NONE))
+    at_pier("root with a first", (0, 0, NONE, 0))
+    at_pier("node 1 by link 5", (1, 4, 5, 0))
+    at_pier("node 1 without a parent", (1, 4, NONE, 0))
+    at_pier("node 2 by link 1", (2, 6, 1, 0))
+    at_pier("node 2 by link 8", (2, 6, 8, 0))
+    at_pier("node 3 by link 3", (3, 7, 3, 0))
+    at_pier("node 1 first 1", (1, 4, 0, 1))
+    at_pier("node 2 first 3", (2, 6, 3, 3))
+    at_pier("node 3 first 6", (3, 7, 6, 6))
+    at_pier("node 3 without a first", (3, 7, 6, NONE))
+    at_pier("node 4 with a parent", (4, MARK, 6, NONE))
+    at_pier("node 200 with a first", (200, MARK, NONE, 0))
 
-for name, dist in [("from the top", TOP), ("from below the mark", MARK - 1), ("from the mark", MARK), ("rightly", 7)]:
-    say("entered " + name, judge_tree(3, 0, [0, 2], [2, 1], [7, 2],
-        rows([(0, NONE, NONE), (MARK, NONE, NONE), (dist, 0, 0)])))
 
-for name, dist, by in [("by the first of two", 5, 0), ("by the second of two", 5, 1), ("by the dearer third", 6, 2)]:
-    say(name, judge_tree(2, 0, [0, 0, 0], [1, 1, 1], [5, 5, 6], rows([(0, NONE, NONE), (dist, by, by)])))
+def forged():
+    at_pier("node 1 at the top", (1, TOP, 0, 0))
+    at_pier("node 2 at the top", (2, TOP, 3, 0))
+    at_pier("node 3 at the top", (3, TOP, 6, 0))
+    at_pier("node 2 wraps to node 3", (2, TOP, 3, 0), (3, 0, 6, 0))
+    at_pier("node 2 one less", (2, TOP - 1, 3, 0), (3, TOP, 6, 0))
+    at_pier("node 2 below the mark", (2, MARK - 1, 3, 0), (3, MARK, 6, 0))
+    at_pier("node 3 at the mark plus 1", (3, MARK + 1, 6, 0))
 
-say("0 nodes", judge_links(0, 0, [], [], []))
-say("1 node", judge_links(1, 0, [], [], []))
-say("256 nodes", judge_links(256, 255, [], [], []))
-say("257 nodes", judge_links(257, 0, [], [], []))
-say("as many nodes as a word holds", judge_links(2**64 - 1, 0, [], [], []))
-say("root at the count", judge_links(4, 4, *PIER))
-say("unequal ends", judge_links(4, 0, PIER[0], [], PIER[2]))
-say("unequal costs", judge_links(4, 0, PIER[0], PIER[1], []))
 
-say("4096 links", judge_links(2, 0, [0] * 4096, [1] * 4096, [7] * 4096))
-say("4097 links", judge_links(2, 0, [0] * 4097, [1] * 4097, [7] * 4097))
-say("20000 starts", judge_links(2, 0, [0] * 20_000, [1] * 4097, [7] * 4097))
+def entered():
+    for name, dist in [("from the top", TOP), ("from below the mark", MARK - 1), ("from the mark", MARK), ("rightly", 7)]:
+        say("entered " + name, judge_tree(3, 0, [0, 2], [2, 1], [7, 2],
+            rows([(0, NONE, NONE), (MARK, NONE, NONE), (dist, 0, 0)])))
 
-say("a start too high", judge_links(2, 0, [0, 2], [1, 0], [1, 1]))
-say("an end too high", judge_links(2, 0, [0, 1], [1, 2], [1, 1]))
-say("a link to itself", judge_links(2, 0, [0, 1], [1, 1], [0, 0]))
-say("a start that falls", judge_links(3, 0, [0, 2, 1, 0], [1, 1, 0, 2], [1, 1, 1, 1]))
-say("equal starts", judge_links(3, 0, [1, 1, 1], [0, 2, 0], [1, 1, 1]))
-say("costs of any value", judge_links(2, 1, [0, 0, 1], [1, 1, 0], [0, 65_535, 1]))
 
-say("1 before 2 and 3", judge_links(0, 9, [0, 1], [1], [1]))
-say("1 before 4", judge_links(300, 0, [0, 400], [1, 1], [1, 1]))
-say("2 before 3", judge_links(2, 2, [0, 1], [1], [1]))
-say("3 before 4", judge_links(2, 0, [0, 7], [1, 1], [1]))
-say("4 behind 5", judge_links(3, 0, [2, 1, 0, 0], [0, 0, 1, 3], [1, 1, 1, 1]))
-say("4 and 5 at one link", judge_links(3, 0, [2, 1], [0, 1], [1, 1]))
-broken = rows(P1, (1, 9, 9, 9))
-say("5 before 6", judge_tree(3, 0, [2, 1], [0, 0], [1, 1], broken))
-say("1 before 6", judge_tree(0, 0, [2, 1], [0, 0], [1, 1], broken))
-say("3 before 6", judge_tree(3, 0, [2, 1], [0, 0], [1], broken))
+def parallel():
+    for name, dist, by in [("by the first of two", 5, 0), ("by the second of two", 5, 1), ("by the dearer third", 6, 2)]:
+        say(name, judge_tree(2, 0, [0, 0, 0], [1, 1, 1], [5, 5, 6], rows([(0, NONE, NONE), (dist, by, by)])))
 
-chain = (list(range(255)), list(range(1, 256)), [65_535] * 255)
-for last in (16_711_425, 16_711_426, 16_776_961):
-    tree = [(0, NONE, NONE)] + [(v * 65_535, v - 1, 0) for v in range(1, 256)]
-    tree[255] = (last, 254, 0)
-    say(f"chain to {last}", judge_tree(256, 0, *chain, tree))
+
+def sizes():
+    say("0 nodes", judge_links(0, 0, [], [], []))
+    say("1 node", judge_links(1, 0, [], [], []))
+    say("256 nodes", judge_links(256, 255, [], [], []))
+    say("257 nodes", judge_links(257, 0, [], [], []))
+    say("as many nodes as a word holds", judge_links(2**64 - 1, 0, [], [], []))
+    say("root at the count", judge_links(4, 4, *PIER))
+    say("unequal ends", judge_links(4, 0, PIER[0], [], PIER[2]))
+    say("unequal costs", judge_links(4, 0, PIER[0], PIER[1], []))
+
+
+def many_links():
+    say("4096 links", judge_links(2, 0, [0] * 4096, [1] * 4096, [7] * 4096))
+    say("4097 links", judge_links(2, 0, [0] * 4097, [1] * 4097, [7] * 4097))
+    say("20000 starts", judge_links(2, 0, [0] * 20_000, [1] * 4097, [7] * 4097))
+
+
+def wrong_links():
+    say("a start too high", judge_links(2, 0, [0, 2], [1, 0], [1, 1]))
+    say("an end too high", judge_links(2, 0, [0, 1], [1, 2], [1, 1]))
+    say("a link to itself", judge_links(2, 0, [0, 1], [1, 1], [0, 0]))
+    say("a start that falls", judge_links(3, 0, [0, 2, 1, 0], [1, 1, 0, 2], [1, 1, 1, 1]))
+    say("equal starts", judge_links(3, 0, [1, 1, 1], [0, 2, 0], [1, 1, 1]))
+    say("costs of any value", judge_links(2, 1, [0, 0, 1], [1, 1, 0], [0, 65_535, 1]))
+
+
+def several():
+    say("1 before 2 and 3", judge_links(0, 9, [0, 1], [1], [1]))
+    say("1 before 4", judge_links(300, 0, [0, 400], [1, 1], [1, 1]))
+    say("2 before 3", judge_links(2, 2, [0, 1], [1], [1]))
+    say("3 before 4", judge_links(2, 0, [0, 7], [1, 1], [1]))
+    say("4 behind 5", judge_links(3, 0, [2, 1, 0, 0], [0, 0, 1, 3], [1, 1, 1, 1]))
+    say("4 and 5 at one link", judge_links(3, 0, [2, 1], [0, 1], [1, 1]))
+    broken = rows(P1, (1, 9, 9, 9))
+    say("5 before 6", judge_tree(3, 0, [2, 1], [0, 0], [1, 1], broken))
+    say("1 before 6", judge_tree(0, 0, [2, 1], [0, 0], [1, 1], broken))
+    say("3 before 6", judge_tree(3, 0, [2, 1], [0, 0], [1], broken))
+
+
+def chains():
+    chain = (list(range(255)), list(range(1, 256)), [65_535] * 255)
+    for last in (16_711_425, 16_711_426, 16_776_961):
+        tree = [(0, NONE, NONE)] + [(v * 65_535, v - 1, 0) for v in range(1, 256)]
+        tree[255] = (last, 254, 0)
+        say(f"chain to {last}", judge_tree(256, 0, *chain, tree))
+
+
+def main():
+    damaged_distances()
+    damaged_links()
+    forged()
+    entered()
+    parallel()
+    sizes()
+    many_links()
+    wrong_links()
+    several()
+    chains()
+
+
+if __name__ == "__main__":
+    main()
