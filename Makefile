@@ -1,5 +1,5 @@
 # What people type. `rt` is the toolchain's command.
-.PHONY: run test room compare bench bench-peers example c-example rust-example rust-test records records-test streams cases archive program clean
+.PHONY: run test room compare bench bench-once bench-peers example c-example rust-example rust-test records records-test streams cases archive program clean
 
 # The pier network through the program `routes`.
 run:
@@ -10,32 +10,38 @@ run:
 test:
 	@./test
 
-# The archive for other languages, and the program `routes`, proved and written: nothing is said where that goes well.
-# PROVED=yes takes them as they stand.
-quietly = mkdir -p target && $(1) >target/said.log || { cat target/said.log; false; }
+# The archive for other languages, target/lib/libroutes.a, and the program `routes`, target/bin/routes, proved and written:
+# nothing is said where that goes well. PROVED=yes takes them as they stand. Each has its own log, target/NAME.log.
+quietly = mkdir -p target && $(1) >target/$@.log 2>&1 || { cat target/$@.log; false; }
 
 archive:
 	@[ -n "$(PROVED)" ] || { $(call quietly,rt staticlib border); }
+	@mkdir -p target/lib && cp -p target/staticlib/libborder.a target/lib/libroutes.a
 
 program:
 	@[ -n "$(PROVED)" ] || { $(call quietly,rt check routes); }
 
-# How much of the stack each job takes, measured on the compiled archive.
+# How much of the stack each job takes, on the compiled archive.
 room: archive
-	@mkdir -p target/tests
-	@rustc -O -o target/tests/room tests/room.rs -L target/staticlib -l static=border
-	@target/tests/room
+	@cd rust && cargo run --offline --quiet --release --bin room
 
 # The product compared with an independent calculation, on cases and streams from fixed seeds (rust/src/bin/compare).
 # PART=jobs or PART=streams compares only these; FROM=100000000 takes other seeds.
 compare: archive program
 	@cd rust && cargo run --offline --quiet --release --bin compare -- $(PART) $(FROM)
 
-# What it costs, against a plain program that rebuilds from nothing: writes the table of docs/COST.md and its picture.
+# What it costs, against plain programs that rebuild from nothing: writes the table of docs/COST.md and its picture.
 bench: room program
 	@bench/peers/build.sh
 	@cd bench && cargo build --offline --quiet --release
 	@target/rust/release/bench
+
+# One round of all that is measured, the peers aside: product and plain programs agree, and nothing is written.
+bench-once: archive program
+	@cd rust && cargo build --offline --quiet --release --bin room
+	@cd bench && cargo build --offline --quiet --release
+	@$(call quietly,target/rust/release/bench once)
+	@tail -1 target/$@.log
 
 # Installs the libraries that `make bench` sets beside the product where it finds them.
 bench-peers:
@@ -46,7 +52,7 @@ example: c-example rust-example
 
 c-example: archive
 	@mkdir -p target/tests
-	@cc -std=c11 -Wall -Wextra -Wpedantic -Iinclude -o target/tests/pier tests/c/pier.c target/staticlib/libborder.a
+	@cc -std=c11 -Wall -Wextra -Wpedantic -Iinclude -o target/tests/pier tests/c/pier.c target/lib/libroutes.a
 	@target/tests/pier
 
 rust-example: archive

@@ -9,7 +9,7 @@ mkdir -p "$out"
 
 in_cpp() { # NAME HEADER
     if [ -e "/usr/include/$2" ] && command -v g++ >/dev/null; then
-        g++ -O2 -DNDEBUG -std=c++14 -w -o "$out/$1" "$1.cpp"
+        g++ -O3 -DNDEBUG -std=c++14 -w -o "$out/$1" "$1.cpp"
     fi
 }
 

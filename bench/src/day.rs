@@ -1,7 +1,7 @@
 //! A day's stream for the program: a network's links, then batches, mostly of one row, with a question now and then, as
 //! many as a stream may hold.
 use crate::made::{self, Dice, Kind};
-use crate::plain;
+use crate::plain::Plain;
 use routes::{Change, Network, NODES};
 
 const MOST_BYTES: usize = 32_768;
@@ -32,7 +32,7 @@ fn batch_record(batch: &[Change]) -> Vec<u8> {
 /// one puts it back.
 pub fn stream(net: &Network, seed: u64) -> Vec<u8> {
     let mut dice = Dice::new(seed);
-    let tree = plain::rebuild(net);
+    let tree = Plain::Simple.rebuild(net);
     let mut stream = opening(net);
     for turn in 0.. {
         let kind = match turn % 16 {

@@ -1,77 +1,44 @@
-// The jobs on made networks: the product and the plain program in turn, over the same inputs, on which they first have
-// to agree.
-use crate::peers::Peer;
-use crate::rounds::{runner, Heat};
-use crate::table::{Column, Row};
-use bench::made::{self, Dice, Kind, Shape};
-use bench::plain;
+// The jobs on made networks: the product and the plain programs in turn, over the same inputs. Whatever is measured is set
+// against the faster of the two plain programs.
+use crate::given::{Given, BATCHES};
+use crate::peers::{Guest, Peer};
+use crate::rounds::{runner, Heat, Runner};
+use crate::row::{Column, Row};
+use bench::made::Shape;
 use bench::product::{self, Columns};
-use routes::{Change, Network, Tree, NODES, UNREACHED};
+use routes::{Change, Network, Tree, NODES};
 use std::hint::black_box;
 
-pub const ROUNDS: usize = 200;
-pub const NETWORKS: usize = 8;
+const NETWORKS: u64 = 8;
 
-// Each kind of batch, how many of it each network gets, and what it is called.
-const BATCHES: [(Kind, usize, &str); 3] = [
-    (Kind::Raised, 16, "one tree link raised"),
-    (Kind::Lowered, 16, "one tree link lowered"),
-    (Kind::Mixed, 4, "32 mixed rows"),
+// Who runs in each heat, first of all the plain programs.
+const SIMPLE: usize = 0;
+const PACKED: usize = 1;
+const PLAINS: [usize; 2] = [SIMPLE, PACKED];
+// Over a network alone.
+const FRESH: [(usize, &str); 7] = [
+    (SIMPLE, "plain rebuild, simple"),
+    (PACKED, "plain rebuild, packed"),
+    (2, "fresh build"),
+    (3, "fresh build, safe Rust"),
+    (4, "judging the table alone"),
+    (JUDGING, "judging table and tree alone"),
+    (6, "path to the deepest node"),
 ];
-
-// A network, the tree that the plain program makes of it, and batches of each kind.
-pub struct Given {
-    pub net: Network,
-    pub tree: Tree,
-    batches: Vec<Vec<Vec<Change>>>,
-}
-
-impl Given {
-    fn made(shape: Shape, links: usize, seed: u64) -> Given {
-        let net = made::network(shape, links, seed);
-        let tree = plain::rebuild(&net);
-        let mut dice = Dice::new(100 + seed);
-        let batches = BATCHES
-            .iter()
-            .map(|&(kind, count, _)| (0..count).map(|_| made::batch(kind, &net, &tree, &mut dice)).collect())
-            .collect();
-        Given { net, tree, batches }
-    }
-
-    fn deepest(&self) -> usize {
-        let mut list = [0; NODES];
-        let reached = (0..NODES).filter(|&node| self.tree.distances[node] != UNREACHED);
-        reached.max_by_key(|&node| product::path(&self.net, &self.tree, node, &mut list)).expect("the root is reached")
-    }
-
-    fn agree(&self) {
-        let mut tree = Tree::empty();
-        product::build(&self.net, &mut tree);
-        assert!(tree == self.tree, "a fresh build differs from the plain rebuild");
-        self.batches.iter().flatten().for_each(|batch| self.agree_on(batch));
-    }
-
-    fn agree_on(&self, batch: &[Change]) {
-        let (mut net, mut tree, mut list) = (self.net.clone(), self.tree.clone(), [0; NODES]);
-        let count = product::update(&mut net, &mut tree, &Columns::of(batch), &mut list);
-        let (mut plain_net, mut plain_tree) = (self.net.clone(), self.tree.clone());
-        let plain_list = plain::update(&mut plain_net, &mut plain_tree, batch);
-        assert!(net == plain_net && tree == plain_tree, "an update differs from the plain program's");
-        assert_eq!(list[..count], plain_list[..], "the changed nodes differ");
-    }
-}
-
-// What runs over a network alone, behind the plain rebuild.
-const FRESH: [&str; 4] =
-    ["fresh build", "judging the table alone", "judging table and tree alone", "path to the deepest node"];
-// Which of these an update can't do without.
-const JUDGING: usize = 2;
+// What no update can do without.
+const JUDGING: usize = 5;
+// Over a network and a batch.
+const UPDATE: usize = 2;
+const SAFE_UPDATE: usize = 3;
 
 fn fresh_heat(given: &Given) -> Heat<'_> {
     let (net, tree, deepest) = (&given.net, &given.tree, given.deepest());
+    let plain = |which: usize| runner((), |_| (), move |_| given.plains[which].rebuild(black_box(net)));
     Heat::new(vec![
-        runner((), |_| (), |_| plain::rebuild(black_box(net))),
+        plain(SIMPLE),
+        plain(PACKED),
         runner(Tree::empty(), |_| (), |tree| product::build(black_box(net), tree)),
+        runner((), |_| (), |_| Tree::build(black_box(net))),
         runner((), |_| (), |_| product::judge_links(black_box(net))),
         runner((), |_| (), |_| product::judge_tree(black_box(net), black_box(tree))),
         runner([0; NODES], |_| (), move |list| product::path(net, tree, deepest, list)),
@@ -79,17 +46,27 @@ fn fresh_heat(given: &Given) -> Heat<'_> {
 }
 
 fn update_heat<'a>(given: &'a Given, batch: &'a [Change]) -> Heat<'a> {
+    type Memory = (Network, Tree, [u16; NODES]);
     // The network and the tree as they were before the batch, and a list.
-    let ready = |(net, tree, _): &mut (Network, Tree, [u16; NODES])| {
+    let ready = |(net, tree, _): &mut Memory| {
         net.costs.copy_from_slice(&given.net.costs);
         tree.clone_from(&given.tree);
     };
-    let memory = (given.net.clone(), given.tree.clone(), [0; NODES]);
+    let memory = || (given.net.clone(), given.tree.clone(), [0; NODES]);
+    let plain = |which: usize| -> Runner<'a> {
+        runner(memory(), ready, move |(net, tree, _)| given.plains[which].update(net, tree, batch))
+    };
     let columns = Columns::of(batch);
     Heat::new(vec![
-        runner(memory.clone(), ready, move |(net, tree, _)| plain::update(net, tree, batch)),
-        runner(memory, ready, move |(net, tree, list)| product::update(net, tree, &columns, list)),
+        plain(SIMPLE),
+        plain(PACKED),
+        runner(memory(), ready, move |(net, tree, list)| product::update(net, tree, &columns, list)),
+        runner(memory(), ready, move |(net, tree, _)| tree.update(net, batch)),
     ])
+}
+
+fn faster(times: [f64; 2]) -> f64 {
+    times[0].min(times[1])
 }
 
 // All heats over one network.
@@ -108,34 +85,36 @@ impl<'a> Course<'a> {
         std::iter::once(&mut self.fresh).chain(self.updates.iter_mut().flatten()).collect()
     }
 
-    // The plain rebuild's time, in nanoseconds.
+    // The nanoseconds of one who runs over the network alone.
+    fn fresh(&self, who: usize) -> f64 {
+        self.fresh.best[who] as f64
+    }
+
+    // The faster plain rebuild's.
     fn rebuild(&self) -> f64 {
-        self.fresh.best[0] as f64
+        faster(PLAINS.map(|plain| self.fresh(plain)))
     }
 
-    fn judging(&self) -> f64 {
-        self.fresh.best[1 + JUDGING] as f64
-    }
-
-    // The mean times of the batches of one kind: the plain program's and the product's.
-    fn update(&self, kind: usize) -> (f64, f64) {
+    // The mean over the batches of one kind: the faster plain program's, and that of who is measured.
+    fn update(&self, kind: usize, who: usize) -> (f64, f64) {
         let heats = &self.updates[kind];
         let mean = |who: usize| heats.iter().map(|heat| heat.best[who] as f64).sum::<f64>() / heats.len() as f64;
-        (mean(0), mean(1))
+        (faster(PLAINS.map(mean)), mean(who))
     }
 }
 
 fn rows(courses: &[Course]) -> Vec<Row> {
     let row = |name: String, times: &dyn Fn(&Course) -> (f64, f64)| Row::of(name, courses.iter().map(times));
-    let mut rows = vec![row("plain rebuild".into(), &|one| (one.rebuild(), one.rebuild()))];
-    for (place, name) in FRESH.iter().enumerate() {
-        rows.push(row(name.to_string(), &|one| (one.rebuild(), one.fresh.best[1 + place] as f64)));
+    let mut rows = Vec::new();
+    for (who, name) in FRESH {
+        rows.push(row(name.to_string(), &|one| (one.rebuild(), one.fresh(who))));
     }
     for (kind, (_, _, name)) in BATCHES.iter().enumerate() {
-        rows.push(row(name.to_string(), &|one| one.update(kind)));
+        rows.push(row(name.to_string(), &|one| one.update(kind, UPDATE)));
+        rows.push(row(format!("{name}, safe Rust"), &|one| one.update(kind, SAFE_UPDATE)));
         rows.push(row(format!("{name}, less judging"), &|one| {
-            let (plain, product) = one.update(kind);
-            (plain, product - one.judging())
+            let (plain, product) = one.update(kind, UPDATE);
+            (plain, product - one.fresh(JUDGING))
         }));
     }
     rows
@@ -150,14 +129,15 @@ fn one_round(courses: &mut [Course], round: usize) {
 }
 
 /// Measures all jobs on networks of one shape and size, and the peers beside them.
-pub fn measure(heading: &'static str, shape: Shape, links: usize, peers: &[Peer]) -> Column {
-    let given: Vec<Given> = (1..=NETWORKS as u64).map(|seed| Given::made(shape, links, seed)).collect();
-    given.iter().for_each(Given::agree);
+pub fn measure(heading: &'static str, shape: Shape, links: usize, peers: &[Peer], rounds: usize) -> Column {
+    let given: Vec<Given> = (1..=NETWORKS).map(|seed| Given::made(shape, links, seed)).collect();
     let mut courses: Vec<Course> = given.iter().map(Course::over).collect();
     let mut guests: Vec<_> = peers.iter().map(|peer| peer.over(&given)).collect();
-    for round in 0..ROUNDS {
+    for round in 0..rounds {
+        let (before, after) = guests.split_at_mut(round % (peers.len() + 1));
+        before.iter_mut().for_each(Guest::turn);
         one_round(&mut courses, round);
-        guests.iter_mut().for_each(|guest| guest.turn());
+        after.iter_mut().for_each(Guest::turn);
     }
     let mut rows = rows(&courses);
     for guest in guests {

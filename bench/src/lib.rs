@@ -1,9 +1,8 @@
-//! What the proved jobs cost, beside the plain program that does the same from nothing. The program `bench` measures,
+//! What the proved jobs cost, beside the plain programs that do the same from nothing. The program `bench` measures,
 //! `plain_routes` is what the program `routes` is measured against, and `again` runs one job for a profiler.
 #![forbid(unsafe_code)]
 
 pub mod day;
 pub mod made;
 pub mod plain;
-#[rustfmt::skip]
 pub mod product;

@@ -47,7 +47,7 @@ fn spots(dice: &mut Dice) -> Vec<Spot> {
 
 fn length(a: Spot, b: Spot) -> usize {
     let (x, y) = (a.0.abs_diff(b.0), a.1.abs_diff(b.1));
-    (x * x + y * y).isqrt()
+    ((x * x + y * y) as f64).sqrt() as usize
 }
 
 type Pair = (usize, usize);

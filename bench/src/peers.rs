@@ -1,8 +1,8 @@
 // Other libraries' Dijkstra, each in a program of its own (peers/): it reads the networks from a file, and for each line
 // that it is sent it goes over all of them twice and tells, for each, the shorter time on a graph that stands already,
 // the shorter one with the graph made from the columns, and the sum of the distances found.
-use crate::jobs::Given;
-use crate::table::Row;
+use crate::given::Given;
+use crate::row::Row;
 use routes::UNREACHED;
 use std::fmt::Write as _;
 use std::io::{BufRead, BufReader, Write as _};
@@ -81,7 +81,7 @@ impl Guest {
         }
     }
 
-    /// Its two rows, against the plain rebuild's times.
+    /// Its two rows, against the faster plain rebuild's times.
     pub fn rows(mut self, rebuilds: Vec<f64>) -> Vec<Row> {
         drop(self.ask);
         self.child.wait().expect("the peer ends with its input");

@@ -1,9 +1,10 @@
 // The table as a picture: a bar for each ratio, a line at 1.0, a mark at each aim. Its colours follow the reader's choice
 // of light or dark.
-use crate::table::{parts, Column, Line};
+use crate::row::Column;
+use crate::table::{parts, Line, Whose};
 use std::fmt::Write as _;
 
-const TITLE: &str = "Time taken, the plain Rust program that rebuilds from nothing being 1.0";
+const TITLE: &str = "Time taken, the faster of two plain Rust programs that rebuild from nothing being 1.0";
 const WIDTH: usize = 860;
 // Where the bars begin, how long a ratio of 1 is, and the longest that is drawn.
 const LEFT: f64 = 320.0;
@@ -58,7 +59,7 @@ impl Drawing {
 
     // A line of the table: a bar for each column, and the aim across them.
     fn line(&mut self, columns: &[Column], line: &Line) {
-        let kind = if line.aim.is_some() { "own" } else { "peer" };
+        let kind = if line.whose == Whose::Ours { "own" } else { "peer" };
         let name = line.name.replace('`', "");
         self.text("", LEFT - 46.0, self.y + BAR + 4, "end", &name);
         for (place, column) in columns.iter().enumerate() {

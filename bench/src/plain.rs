@@ -1,11 +1,13 @@
-//! The program that people would write: Dijkstra with the standard library's heap, from nothing at every batch. It takes
-//! the same columns as the product and hands back the same tree, but judges nothing: it's fed right input only.
+//! The programs that people would write: Dijkstra with the standard library's heap, from nothing at every batch. They take
+//! the same columns as the product and hand back the same tree, but judge nothing: they're fed right input only.
 use routes::{Change, Network, Tree, NODES, NO_LINK};
 use std::cmp::Reverse;
 use std::collections::BinaryHeap;
 
-// Where each node's links begin; they end where the next node's begin.
-fn offsets(net: &Network) -> [usize; NODES + 1] {
+/// Where each node's links begin; they end where the next node's begin.
+pub type Offsets = [usize; NODES + 1];
+
+fn offsets(net: &Network) -> Offsets {
     let mut offsets = [0; NODES + 1];
     for &start in &net.starts {
         offsets[start as usize + 1] += 1;
@@ -16,6 +18,33 @@ fn offsets(net: &Network) -> [usize; NODES + 1] {
     offsets
 }
 
+// What stands in the heap: a node at the distance at which it waits. The least distance comes first.
+trait Waiting: Ord + Copy {
+    fn at(distance: u32, node: usize) -> Self;
+    fn distance_and_node(self) -> (u32, usize);
+}
+
+impl Waiting for (u32, u16) {
+    fn at(distance: u32, node: usize) -> Self {
+        (distance, node as u16)
+    }
+
+    fn distance_and_node(self) -> (u32, usize) {
+        (self.0, self.1 as usize)
+    }
+}
+
+// Both in one number, which one comparison orders. Distances are below 2^24.
+impl Waiting for u32 {
+    fn at(distance: u32, node: usize) -> Self {
+        distance * 256 + node as u32
+    }
+
+    fn distance_and_node(self) -> (u32, usize) {
+        (self / 256, (self % 256) as usize)
+    }
+}
+
 // Whether a link is usable and tight. Its start was settled before its end.
 fn is_tight(net: &Network, tree: &Tree, link: u16, end: usize) -> bool {
     let link = link as usize;
@@ -23,28 +52,32 @@ fn is_tight(net: &Network, tree: &Tree, link: u16, end: usize) -> bool {
     cost != 0 && tree.distances[net.starts[link] as usize] + cost == tree.distances[end]
 }
 
-/// The tree from nothing. A node keeps its old parent link where that is tight; any other takes the smallest.
-fn rebuild_keeping(net: &Network, old: Option<&Tree>) -> Tree {
-    let offsets = offsets(net);
+// A node that is taken from the heap is settled: every tight link into it comes from a nearer node, so its parent and its
+// first link can be told.
+fn hang(net: &Network, tree: &mut Tree, old: Option<&Tree>, node: usize) {
+    if let Some(old) = old.map(|tree| tree.parents[node]) {
+        if old != NO_LINK && is_tight(net, tree, old, node) {
+            tree.parents[node] = old;
+        }
+    }
+    let parent = tree.parents[node];
+    let start = net.starts[parent as usize] as usize;
+    tree.firsts[node] = if start == net.root { parent } else { tree.firsts[start] };
+}
+
+// The tree from nothing. A node keeps its old parent link where that is tight; any other takes the smallest.
+fn grown<W: Waiting>(net: &Network, offsets: &Offsets, old: Option<&Tree>) -> Tree {
     let mut tree = Tree::empty();
     let mut heap = BinaryHeap::with_capacity(NODES);
     tree.distances[net.root] = 0;
-    heap.push(Reverse((0u32, net.root as u16)));
-    while let Some(Reverse((distance, node))) = heap.pop() {
-        let node = node as usize;
+    heap.push(Reverse(W::at(0, net.root)));
+    while let Some(Reverse(nearest)) = heap.pop() {
+        let (distance, node) = nearest.distance_and_node();
         if distance > tree.distances[node] {
             continue;
         }
-        // Every tight link comes from a nearer node, so parent and first link can be told now.
         if node != net.root {
-            if let Some(old) = old.map(|tree| tree.parents[node]) {
-                if old != NO_LINK && is_tight(net, &tree, old, node) {
-                    tree.parents[node] = old;
-                }
-            }
-            let parent = tree.parents[node];
-            let start = net.starts[parent as usize] as usize;
-            tree.firsts[node] = if start == net.root { parent } else { tree.firsts[start] };
+            hang(net, &mut tree, old, node);
         }
         for link in offsets[node]..offsets[node + 1] {
             let (end, cost) = (net.ends[link] as usize, net.costs[link] as u32);
@@ -55,7 +88,7 @@ fn rebuild_keeping(net: &Network, old: Option<&Tree>) -> Tree {
             if sum < tree.distances[end] {
                 tree.distances[end] = sum;
                 tree.parents[end] = link as u16;
-                heap.push(Reverse((sum, end as u16)));
+                heap.push(Reverse(W::at(sum, end)));
             } else if sum == tree.distances[end] && (link as u16) < tree.parents[end] {
                 tree.parents[end] = link as u16;
             }
@@ -64,20 +97,43 @@ fn rebuild_keeping(net: &Network, old: Option<&Tree>) -> Tree {
     tree
 }
 
-/// The tree from nothing: each reached node but the root takes its tight link of smallest number.
-pub fn rebuild(net: &Network) -> Tree {
-    rebuild_keeping(net, None)
+/// The two plain programs. They differ in what their heap holds, and in what they remember of a network.
+#[derive(Clone)]
+pub enum Plain {
+    /// Pairs of a distance and a node in the heap, and where each node's links begin found anew at each call.
+    Simple,
+    /// One packed number in the heap, and where each node's links begin kept from call to call.
+    Packed(Box<Offsets>),
 }
 
-/// Writes a batch's costs, makes the tree from nothing, keeps the old parent links that are still tight, and lists the
-/// nodes whose row differs.
-pub fn update(net: &mut Network, tree: &mut Tree, batch: &[Change]) -> Vec<u16> {
-    for row in batch {
-        net.costs[row.link as usize] = row.cost;
+impl Plain {
+    /// The packed program, for networks whose links start as those of this one.
+    pub fn packed(net: &Network) -> Plain {
+        Plain::Packed(Box::new(offsets(net)))
     }
-    let next = rebuild_keeping(net, Some(tree));
-    let old = std::mem::replace(tree, next);
-    (0..net.nodes).filter(|&node| differs(&old, tree, node)).map(|node| node as u16).collect()
+
+    fn grown(&self, net: &Network, old: Option<&Tree>) -> Tree {
+        match self {
+            Plain::Simple => grown::<(u32, u16)>(net, &offsets(net), old),
+            Plain::Packed(kept) => grown::<u32>(net, kept, old),
+        }
+    }
+
+    /// The tree from nothing: each reached node but the root takes its tight link of smallest number.
+    pub fn rebuild(&self, net: &Network) -> Tree {
+        self.grown(net, None)
+    }
+
+    /// Writes a batch's costs, makes the tree from nothing, keeps the old parent links that are still tight, and lists
+    /// the nodes whose row differs.
+    pub fn update(&self, net: &mut Network, tree: &mut Tree, batch: &[Change]) -> Vec<u16> {
+        for row in batch {
+            net.costs[row.link as usize] = row.cost;
+        }
+        let next = self.grown(net, Some(tree));
+        let old = std::mem::replace(tree, next);
+        (0..net.nodes).filter(|&node| differs(&old, tree, node)).map(|node| node as u16).collect()
+    }
 }
 
 fn differs(old: &Tree, new: &Tree, node: usize) -> bool {

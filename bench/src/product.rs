@@ -1,32 +1,27 @@
 //! The product's jobs through the C functions, over memory that is lent again and again, as a unit aboard would lend it.
 //! Every made input is acceptable.
-use routes::{ffi, Change, Network, Tree, NODES};
+use routes::ffi::{Batch, Reply};
+use routes::{lent, Change, Network, Tree, NODES};
 
-fn accepted(told: ffi::Reply) -> usize {
+fn accepted(told: Reply) -> usize {
     assert_eq!(told.number, 0, "a made input is acceptable");
     told.count
 }
 
 pub fn judge_links(net: &Network) {
-    accepted(ffi::judge_links(net.nodes, net.root, &net.starts, &net.ends, &net.costs));
+    accepted(lent::judge_links(net));
 }
 
 pub fn judge_tree(net: &Network, tree: &Tree) {
-    let Network { nodes, root, starts, ends, costs } = net;
-    let Tree { distances, parents, firsts } = tree;
-    accepted(ffi::judge_tree(*nodes, *root, starts, ends, costs, distances, parents, firsts));
+    accepted(lent::judge_tree(net, tree));
 }
 
 pub fn build(net: &Network, tree: &mut Tree) {
-    let Network { nodes, root, starts, ends, costs } = net;
-    let Tree { distances, parents, firsts } = tree;
-    accepted(ffi::build(*nodes, *root, starts, ends, costs, distances, parents, firsts));
+    accepted(lent::build(net, tree));
 }
 
 pub fn path(net: &Network, tree: &Tree, node: usize, list: &mut [u16]) -> usize {
-    let Network { nodes, root, starts, ends, costs } = net;
-    let Tree { distances, parents, firsts } = tree;
-    accepted(ffi::path(*nodes, *root, starts, ends, costs, distances, parents, firsts, node, list))
+    accepted(lent::path(net, tree, node, list))
 }
 
 /// A batch as the C functions take it.
@@ -37,17 +32,11 @@ pub struct Columns {
 
 impl Columns {
     pub fn of(batch: &[Change]) -> Columns {
-        Columns {
-            links: batch.iter().map(|row| row.link).collect(),
-            costs: batch.iter().map(|row| row.cost).collect(),
-        }
+        let (links, costs) = batch.iter().map(|row| (row.link, row.cost)).unzip();
+        Columns { links, costs }
     }
 }
 
 pub fn update(net: &mut Network, tree: &mut Tree, batch: &Columns, list: &mut [u16; NODES]) -> usize {
-    let Network { nodes, root, starts, ends, costs } = net;
-    let Tree { distances, parents, firsts } = tree;
-    accepted(ffi::update(
-        *nodes, *root, starts, ends, costs, &batch.links, &batch.costs, distances, parents, firsts, list,
-    ))
+    accepted(lent::update(net, tree, Batch { links: &batch.links, costs: &batch.costs }, list))
 }

@@ -1,6 +1,6 @@
-// The program `routes` against the plain one: both as processes, in turn, over the same bytes. What counts is the time that
+// The program `routes` against the plain ones: all as processes, in turn, over the same bytes. What counts is the time that
 // a process had a processor, as Linux tells it. What it takes for an empty stream is taken off.
-use crate::table::Row;
+use crate::row::Row;
 use bench::day;
 use bench::made::{self, Shape};
 use std::fs::{read_to_string, File};
@@ -8,7 +8,6 @@ use std::io::Read;
 use std::path::{Path, PathBuf};
 use std::process::{Command, Stdio};
 
-const ROUNDS: usize = 20;
 const STREAMS: u64 = 3;
 
 pub const NAME: &str = "`routes` on a day's stream";
@@ -32,10 +31,14 @@ fn time_of(process: u32) -> f64 {
     times.split_whitespace().next().and_then(|time| time.parse().ok()).expect("a number")
 }
 
+// A program, and the words that it is started with.
+type Called<'a> = (&'a Path, &'a [&'a str]);
+
 // What a program prints for a stream, and its time.
-fn run(program: &Path, stream: &Path) -> (Vec<u8>, f64) {
+fn run((program, words): Called, stream: &Path) -> (Vec<u8>, f64) {
     let input = File::open(stream).expect("the stream was written");
     let mut child = Command::new(program)
+        .args(words)
         .stdin(input)
         .stdout(Stdio::piped())
         .stderr(Stdio::null())
@@ -49,39 +52,42 @@ fn run(program: &Path, stream: &Path) -> (Vec<u8>, f64) {
 }
 
 impl Programs {
-    fn both(&self) -> [&Path; 2] {
-        [&self.plain, &self.routes]
+    // The two plain ones, then `routes`.
+    fn called(&self) -> [Called<'_>; 3] {
+        [(&self.plain, &["simple"]), (&self.plain, &["packed"]), (&self.routes, &[])]
     }
 
     fn write(&self, name: &str, bytes: &[u8]) -> PathBuf {
+        std::fs::create_dir_all(&self.folder).expect("a folder for the bench can be made");
         let path = self.folder.join(name);
         std::fs::write(&path, bytes).expect("the bench's folder takes a file");
         path
     }
 
-    // The best times of the two programs over a stream, less those over an empty one.
-    fn times(&self, bytes: &[u8]) -> (f64, f64) {
-        let (empty, full) = (self.write("empty", &[]), self.write("day", bytes));
-        let [plain, product] = self.both().map(|program| run(program, &full).0);
-        assert!(plain == product && !plain.is_empty(), "`routes` prints other lines than the plain program");
-        let mut best = [[f64::MAX; 2]; 2];
-        for _ in 0..ROUNDS {
-            for (program, best) in self.both().iter().zip(&mut best) {
-                for (stream, best) in [&empty, &full].iter().zip(best) {
-                    *best = best.min(run(program, stream).1);
+    // The best times over a stream, less those over an empty one: the faster plain program's, and that of `routes`. Who
+    // begins moves on from round to round.
+    fn times(&self, bytes: &[u8], rounds: usize) -> (f64, f64) {
+        let streams = [self.write("empty", &[]), self.write("day", bytes)];
+        let programs = self.called();
+        let [simple, packed, product] = programs.map(|program| run(program, &streams[1]).0);
+        assert!(product == simple && product == packed, "`routes` prints other lines than the plain programs");
+        assert!(!product.is_empty(), "a day's stream prints lines");
+        let mut best = [[f64::MAX; 2]; 3];
+        for round in 0..rounds {
+            for place in 0..programs.len() {
+                let who = (place + round) % programs.len();
+                for (stream, best) in streams.iter().zip(&mut best[who]) {
+                    *best = best.min(run(programs[who], stream).1);
                 }
             }
         }
-        let [plain, product] = best.map(|[empty, full]| full - empty);
-        (plain, product)
+        let [simple, packed, product] = best.map(|[empty, full]| full - empty);
+        (simple.min(packed), product)
     }
 
-    /// The row of the program, if it is built.
-    pub fn measure(&self, shape: Shape, links: usize) -> Option<Row> {
-        if !self.routes.exists() {
-            return None;
-        }
+    /// The row of the program.
+    pub fn measure(&self, shape: Shape, links: usize, rounds: usize) -> Row {
         let stream = |seed| day::stream(&made::network(shape, links, seed), 1_000 + seed);
-        Some(Row::of(NAME, (1..=STREAMS).map(|seed| self.times(&stream(seed)))))
+        Row::of(NAME, (1..=STREAMS).map(|seed| self.times(&stream(seed), rounds)))
     }
 }

@@ -5,7 +5,7 @@ use std::hint::black_box;
 use std::time::Instant;
 
 // Runs once, and tells its nanoseconds.
-type Runner<'a> = Box<dyn FnMut() -> u64 + 'a>;
+pub type Runner<'a> = Box<dyn FnMut() -> u64 + 'a>;
 
 /// A runner that readies its memory before the clock runs, and drops what it made after.
 pub fn runner<'a, M: 'a, R>(mut memory: M, ready: impl Fn(&mut M) + 'a, go: impl Fn(&mut M) -> R + 'a) -> Runner<'a> {

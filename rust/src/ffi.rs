@@ -2,9 +2,9 @@
 //!
 //! Each call is sound for any numbers in the memory lent: the functions judge their input themselves, read and write
 //! only within the lengths given, and keep no pointer. A reference is never null, is aligned, and a mutable one shares
-//! no memory with another, which is all that they ask.
+//! no memory with another, which is all that they ask. [`crate::lent`] has the same over a [`crate::Network`] and a
+//! [`crate::Tree`].
 #![allow(unsafe_code)]
-#![allow(clippy::too_many_arguments)]
 
 use crate::{Refusal, NODES};
 
@@ -54,16 +54,63 @@ pub struct Reply {
 impl Reply {
     /// The refusal, if the call was refused.
     pub fn refusal(self) -> Result<(), Refusal> {
-        Refusal::told(self.number, self.value)
+        Refusal::told(self.number, self.value).map_or(Ok(()), Err)
     }
 }
 
 // What stands in the places for the answer before a call, which writes them whatever it answers.
 const UNWRITTEN: Reply = Reply { number: 60_000, value: 60_000, count: 60_000 };
 
+/// A network but for its costs.
+#[derive(Debug, Clone, Copy)]
+pub struct Net<'a> {
+    /// How many nodes there are.
+    pub nodes: usize,
+    /// Where all routes begin.
+    pub root: usize,
+    /// The node that each link leaves.
+    pub starts: &'a [u16],
+    /// The node that each link enters.
+    pub ends: &'a [u16],
+}
+
+/// A batch: a row for each place that both columns have.
+#[derive(Debug, Clone, Copy)]
+pub struct Batch<'a> {
+    /// The rows' links.
+    pub links: &'a [u16],
+    /// What they cost from now on.
+    pub costs: &'a [u16],
+}
+
+/// A tree that is read.
+#[derive(Debug, Clone, Copy)]
+pub struct Rows<'a> {
+    /// The distances.
+    pub dist: &'a [u32; NODES],
+    /// The parent links.
+    pub parent: &'a [u16; NODES],
+    /// The first links.
+    pub first: &'a [u16; NODES],
+}
+
+/// A tree that is written.
+#[derive(Debug)]
+pub struct RowsMut<'a> {
+    /// The distances.
+    pub dist: &'a mut [u32; NODES],
+    /// The parent links.
+    pub parent: &'a mut [u16; NODES],
+    /// The first links.
+    pub first: &'a mut [u16; NODES],
+}
+
 /// Judges a table of links: refusals 1 to 5.
-pub fn judge_links(nodes: usize, root: usize, starts: &[u16], ends: &[u16], costs: &[u16]) -> Reply {
+#[inline]
+pub fn judge_links(net: Net, costs: &[u16]) -> Reply {
+    let Net { nodes, root, starts, ends } = net;
     let mut value = UNWRITTEN.value;
+    // SAFETY: every pointer is that of a reference, and its length stands beside it.
     let number = unsafe {
         routes_judge_links(
             nodes, root, starts.as_ptr(), starts.len(), ends.as_ptr(), ends.len(), costs.as_ptr(), costs.len(),
@@ -74,46 +121,47 @@ pub fn judge_links(nodes: usize, root: usize, starts: &[u16], ends: &[u16], cost
 }
 
 /// Judges a tree: refusals 1 to 6.
-pub fn judge_tree(
-    nodes: usize, root: usize, starts: &[u16], ends: &[u16], costs: &[u16],
-    dist: &[u32; NODES], parent: &[u16; NODES], first: &[u16; NODES],
-) -> Reply {
+#[inline]
+pub fn judge_tree(net: Net, costs: &[u16], tree: Rows) -> Reply {
+    let Net { nodes, root, starts, ends } = net;
     let mut value = UNWRITTEN.value;
+    // SAFETY: every pointer is that of a reference, its length beside it; a tree's arrays have the 256 entries asked for.
     let number = unsafe {
         routes_judge_tree(
             nodes, root, starts.as_ptr(), starts.len(), ends.as_ptr(), ends.len(), costs.as_ptr(), costs.len(),
-            dist.as_ptr(), parent.as_ptr(), first.as_ptr(), &mut value,
+            tree.dist.as_ptr(), tree.parent.as_ptr(), tree.first.as_ptr(), &mut value,
         )
     };
     Reply { number, value, count: 0 }
 }
 
 /// Fresh build: refusals 1 to 5. The three arrays are written whatever it answers.
-pub fn build(
-    nodes: usize, root: usize, starts: &[u16], ends: &[u16], costs: &[u16],
-    dist: &mut [u32; NODES], parent: &mut [u16; NODES], first: &mut [u16; NODES],
-) -> Reply {
+#[inline]
+pub fn build(net: Net, costs: &[u16], tree: RowsMut) -> Reply {
+    let Net { nodes, root, starts, ends } = net;
     let mut value = UNWRITTEN.value;
+    // SAFETY: as in `judge_tree`; what is written is lent to this call alone.
     let number = unsafe {
         routes_build(
             nodes, root, starts.as_ptr(), starts.len(), ends.as_ptr(), ends.len(), costs.as_ptr(), costs.len(),
-            dist.as_mut_ptr(), parent.as_mut_ptr(), first.as_mut_ptr(), &mut value,
+            tree.dist.as_mut_ptr(), tree.parent.as_mut_ptr(), tree.first.as_mut_ptr(), &mut value,
         )
     };
     Reply { number, value, count: 0 }
 }
 
-/// Update: refusals 1 to 9 and 12. The batch has a row for each place that both of its columns have.
-pub fn update(
-    nodes: usize, root: usize, starts: &[u16], ends: &[u16], costs: &mut [u16], changed: &[u16], newcosts: &[u16],
-    dist: &mut [u32; NODES], parent: &mut [u16; NODES], first: &mut [u16; NODES], list: &mut [u16],
-) -> Reply {
+/// Update: refusals 1 to 9 and 12.
+#[inline]
+pub fn update(net: Net, costs: &mut [u16], batch: Batch, tree: RowsMut, list: &mut [u16]) -> Reply {
+    let Net { nodes, root, starts, ends } = net;
+    let Batch { links, costs: newcosts } = batch;
     let Reply { mut value, mut count, .. } = UNWRITTEN;
+    // SAFETY: as in `build`; the costs, the tree and the list are lent to this call alone, so none shares memory.
     let number = unsafe {
         routes_update(
             nodes, root, starts.as_ptr(), starts.len(), ends.as_ptr(), ends.len(), costs.as_mut_ptr(), costs.len(),
-            changed.as_ptr(), changed.len(), newcosts.as_ptr(), newcosts.len(),
-            dist.as_mut_ptr(), parent.as_mut_ptr(), first.as_mut_ptr(), list.as_mut_ptr(), list.len(),
+            links.as_ptr(), links.len(), newcosts.as_ptr(), newcosts.len(),
+            tree.dist.as_mut_ptr(), tree.parent.as_mut_ptr(), tree.first.as_mut_ptr(), list.as_mut_ptr(), list.len(),
             &mut count, &mut value,
         )
     };
@@ -121,15 +169,15 @@ pub fn update(
 }
 
 /// Path: refusals 1 to 6 and 10 to 12.
-pub fn path(
-    nodes: usize, root: usize, starts: &[u16], ends: &[u16], costs: &[u16],
-    dist: &[u32; NODES], parent: &[u16; NODES], first: &[u16; NODES], node: usize, list: &mut [u16],
-) -> Reply {
+#[inline]
+pub fn path(net: Net, costs: &[u16], tree: Rows, node: usize, list: &mut [u16]) -> Reply {
+    let Net { nodes, root, starts, ends } = net;
     let Reply { mut value, mut count, .. } = UNWRITTEN;
+    // SAFETY: as in `judge_tree`; the list is lent to this call alone.
     let number = unsafe {
         routes_path(
             nodes, root, starts.as_ptr(), starts.len(), ends.as_ptr(), ends.len(), costs.as_ptr(), costs.len(),
-            dist.as_ptr(), parent.as_ptr(), first.as_ptr(), node, list.as_mut_ptr(), list.len(),
+            tree.dist.as_ptr(), tree.parent.as_ptr(), tree.first.as_ptr(), node, list.as_mut_ptr(), list.len(),
             &mut count, &mut value,
         )
     };
@@ -150,8 +198,10 @@ pub struct Reading {
 }
 
 /// Reads the record at a place of a stream: refusals 21 and 22.
+#[inline]
 pub fn read(stream: &[u8], place: usize) -> Reading {
     let (mut kind, mut numbers, mut next) = (u8::MAX, [UNWRITTEN.value; 3], UNWRITTEN.count);
+    // SAFETY: the stream's pointer is that of a reference, its length beside it; `numbers` has the three entries asked for.
     let number = unsafe {
         routes_read(stream.as_ptr(), stream.len(), place, &mut kind, numbers.as_mut_ptr(), &mut next)
     };

@@ -1,6 +1,9 @@
 //! The route calculation for programs in Rust: judging a table of links, a fresh tree of shortest routes, the update of
 //! a tree after a batch of cost changes, the path to a node, and the reader of the record stream. The work is done by
-//! the proved functions of `crates/border`; this crate lends them memory and reads their answers.
+//! the proved functions of `libroutes.a`; this crate lends them memory and reads their answers.
+//!
+//! `make archive` in the project's folder proves and writes the archive, for x86-64 Linux. It is looked for in `target/lib`
+//! there, or in the folder that the environment variable `ROUTES_LIB_DIR` names. Without it everything but linking works.
 //!
 //! ```
 //! use routes::{Change, Network, Tree};
@@ -25,8 +28,16 @@
 #![deny(unsafe_code)]
 #![warn(missing_docs)]
 
+#[cfg(not(all(target_arch = "x86_64", target_os = "linux")))]
+compile_error!(
+    "the proved archive, libroutes.a, is written for x86-64 Linux alone: build for x86_64-unknown-linux-gnu"
+);
+
+#[doc(hidden)]
 #[rustfmt::skip]
 pub mod ffi;
+#[doc(hidden)]
+pub mod lent;
 mod network;
 mod refusal;
 mod stream;

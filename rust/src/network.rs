@@ -1,4 +1,4 @@
-use crate::{ffi, Refusal};
+use crate::{lent, Refusal};
 
 /// A node count, a root and the links, which stand in three columns; a link's number is its place. Any numbers may stand
 /// in it: every job judges it.
@@ -47,6 +47,6 @@ impl Network {
 
     /// Judges the table of links: refusals 1 to 5.
     pub fn judge(&self) -> Result<(), Refusal> {
-        ffi::judge_links(self.nodes, self.root, &self.starts, &self.ends, &self.costs).refusal()
+        lent::judge_links(self).refusal()
     }
 }

@@ -12,6 +12,7 @@ use std::fmt;
 /// assert_eq!(refusal.to_string(), "link 1 starts or ends at no node, or leads from a node to itself");
 /// ```
 #[derive(Debug, Clone, Copy, PartialEq, Eq, Hash)]
+#[non_exhaustive]
 pub enum Refusal {
     /// 1: the node count is 0 or over 256.
     WrongNodeCount,
@@ -52,10 +53,17 @@ pub enum Refusal {
     AskedUnreached,
     /// 12: the lent list is too short. It doesn't arise where a list is handed back instead of lent.
     ListTooShort,
+    /// A number that this crate has no name for. No job of the archive that it was written with gives one.
+    Unnamed {
+        /// The number.
+        number: u16,
+        /// The value beside it.
+        value: u16,
+    },
 }
 
 impl Refusal {
-    /// The refusal's number, from 1 to 12.
+    /// The refusal's number.
     pub fn number(self) -> u16 {
         match self {
             Refusal::WrongNodeCount => 1,
@@ -70,6 +78,7 @@ impl Refusal {
             Refusal::AskedNoNode => 10,
             Refusal::AskedUnreached => 11,
             Refusal::ListTooShort => 12,
+            Refusal::Unnamed { number, .. } => number,
         }
     }
 
@@ -79,17 +88,23 @@ impl Refusal {
             Refusal::WrongEnds { link } | Refusal::WrongOrder { link } => link,
             Refusal::TreeUnfit { node } => node,
             Refusal::RowNamesNoLink { row } | Refusal::RowNamesLinkAgain { row } => row,
+            Refusal::Unnamed { value, .. } => value,
             _ => 0,
         }
     }
 
-    /// What a number and the value beside it mean: nothing for 0, which is acceptance.
+    /// The refusal that a number and the value beside it mean: none for 0, which is acceptance.
     ///
-    /// # Panics
-    /// On a number over 12, which no job gives.
-    pub fn told(number: u16, value: u16) -> Result<(), Refusal> {
-        Err(match number {
-            0 => return Ok(()),
+    /// ```
+    /// use routes::Refusal;
+    ///
+    /// assert_eq!(Refusal::told(0, 0), None);
+    /// assert_eq!(Refusal::told(8, 3), Some(Refusal::RowNamesNoLink { row: 3 }));
+    /// assert_eq!(Refusal::told(999, 7).map(|refusal| (refusal.number(), refusal.value())), Some((999, 7)));
+    /// ```
+    pub fn told(number: u16, value: u16) -> Option<Refusal> {
+        Some(match number {
+            0 => return None,
             1 => Refusal::WrongNodeCount,
             2 => Refusal::WrongRoot,
             3 => Refusal::WrongColumns,
@@ -102,7 +117,7 @@ impl Refusal {
             10 => Refusal::AskedNoNode,
             11 => Refusal::AskedUnreached,
             12 => Refusal::ListTooShort,
-            _ => panic!("no refusal has the number {number}"),
+            _ => Refusal::Unnamed { number, value },
         })
     }
 }
@@ -126,6 +141,7 @@ impl fmt::Display for Refusal {
             Refusal::AskedNoNode => write!(f, "the asked node isn't below the node count"),
             Refusal::AskedUnreached => write!(f, "the asked node is unreached"),
             Refusal::ListTooShort => write!(f, "the lent list is too short"),
+            Refusal::Unnamed { number, value } => write!(f, "refusal {number}, which carries {value}"),
         }
     }
 }

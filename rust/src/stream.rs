@@ -3,6 +3,7 @@ use std::fmt;
 
 /// A record of a stream. Its numbers are any that 16 bits hold: the reader judges none of them.
 #[derive(Debug, Clone, Copy, PartialEq, Eq)]
+#[non_exhaustive]
 pub enum Record {
     /// The node count and the root.
     Network {
@@ -33,6 +34,7 @@ pub enum Record {
 
 /// Why no record stands at a place of a stream that isn't its end.
 #[derive(Debug, Clone, Copy, PartialEq, Eq, Hash)]
+#[non_exhaustive]
 pub enum Unreadable {
     /// 21: no record has this kind.
     UnknownKind {
@@ -120,20 +122,23 @@ impl Iterator for Records<'_> {
         }
         let place = self.place;
         let read = ffi::read(self.stream, place);
-        self.place = read.next;
-        self.refused = read.number != 0;
         let [a, b, c] = read.numbers;
-        match (read.number, read.kind) {
-            (0, 0) => None,
-            (0, 1) => Some(Ok(Record::Network { nodes: a, root: b })),
-            (0, 2) => Some(Ok(Record::Link { start: a, end: b, cost: c })),
-            (0, 3) => Some(Ok(Record::Change(Change { link: a, cost: b }))),
-            (0, 4) => Some(Ok(Record::Apply)),
-            (0, 5) => Some(Ok(Record::Ask { node: a })),
-            (21, _) => Some(Err(Unreadable::UnknownKind { place })),
-            (22, _) => Some(Err(Unreadable::CutShort { place })),
-            (number, kind) => unreachable!("the reader gives no number {number} with kind {kind}"),
+        let record = match (read.number, read.kind) {
+            (0, 0) => return None,
+            (0, 1) => Ok(Record::Network { nodes: a, root: b }),
+            (0, 2) => Ok(Record::Link { start: a, end: b, cost: c }),
+            (0, 3) => Ok(Record::Change(Change { link: a, cost: b })),
+            (0, 4) => Ok(Record::Apply),
+            (0, 5) => Ok(Record::Ask { node: a }),
+            (22, _) => Err(Unreadable::CutShort { place }),
+            // 21; and a kind that this crate has no name for, which no archive that it was written with gives.
+            _ => Err(Unreadable::UnknownKind { place }),
+        };
+        match record {
+            Ok(_) => self.place = read.next,
+            Err(_) => self.refused = true,
         }
+        Some(record)
     }
 }
 

@@ -1,4 +1,5 @@
-use crate::{ffi, Change, Network, Refusal, NODES, NO_LINK, UNREACHED};
+use crate::ffi::Batch;
+use crate::{lent, Change, Network, Refusal, NODES, NO_LINK, ROWS, UNREACHED};
 use std::fmt;
 
 /// A tree of shortest routes: for each of 256 nodes a distance, a parent link and a first link. Any numbers may stand in
@@ -32,17 +33,7 @@ impl Tree {
     /// ```
     pub fn build(net: &Network) -> Result<Tree, Refusal> {
         let mut tree = Tree::empty();
-        ffi::build(
-            net.nodes,
-            net.root,
-            &net.starts,
-            &net.ends,
-            &net.costs,
-            &mut tree.distances,
-            &mut tree.parents,
-            &mut tree.firsts,
-        )
-        .refusal()?;
+        lent::build(net, &mut tree).refusal()?;
         Ok(tree)
     }
 
@@ -59,22 +50,12 @@ impl Tree {
     /// # Ok::<(), Refusal>(())
     /// ```
     pub fn judge(&self, net: &Network) -> Result<(), Refusal> {
-        ffi::judge_tree(
-            net.nodes,
-            net.root,
-            &net.starts,
-            &net.ends,
-            &net.costs,
-            &self.distances,
-            &self.parents,
-            &self.firsts,
-        )
-        .refusal()
+        lent::judge_tree(net, self).refusal()
     }
 
     /// Writes a batch's costs into the network, brings the tree up to them, and hands back the changed nodes, in rising
     /// order. All rows take effect together. A node whose parent link is still tight keeps it. Refusals 1 to 9, which
-    /// leave the network and the tree as they were.
+    /// leave the network and the tree as they were. What is handed back is all that is allocated.
     ///
     /// ```
     /// use routes::{Change, Network, Refusal, Tree};
@@ -90,28 +71,20 @@ impl Tree {
     /// # Ok::<(), Refusal>(())
     /// ```
     pub fn update(&mut self, net: &mut Network, batch: &[Change]) -> Result<Vec<u16>, Refusal> {
-        let links: Vec<u16> = batch.iter().map(|row| row.link).collect();
-        let costs: Vec<u16> = batch.iter().map(|row| row.cost).collect();
-        let mut list = vec![0; NODES];
-        let told = ffi::update(
-            net.nodes,
-            net.root,
-            &net.starts,
-            &net.ends,
-            &mut net.costs,
-            &links,
-            &costs,
-            &mut self.distances,
-            &mut self.parents,
-            &mut self.firsts,
-            &mut list,
-        );
+        // As columns. One row over the limit is enough to tell that there are too many.
+        let (mut links, mut costs) = ([0; ROWS + 1], [0; ROWS + 1]);
+        let rows = batch.len().min(ROWS + 1);
+        for (place, row) in batch[..rows].iter().enumerate() {
+            (links[place], costs[place]) = (row.link, row.cost);
+        }
+        let mut list = [0; NODES];
+        let told = lent::update(net, self, Batch { links: &links[..rows], costs: &costs[..rows] }, &mut list);
         told.refusal()?;
-        list.truncate(told.count);
-        Ok(list)
+        Ok(list[..told.count].to_vec())
     }
 
-    /// The links from the root to a node, in travel order. Refusals 1 to 6, 10 and 11.
+    /// The links from the root to a node, in travel order. Refusals 1 to 6, 10 and 11. What is handed back is all that is
+    /// allocated.
     ///
     /// ```
     /// use routes::{Network, Refusal, Tree};
@@ -125,22 +98,10 @@ impl Tree {
     /// # Ok::<(), Refusal>(())
     /// ```
     pub fn path(&self, net: &Network, node: usize) -> Result<Vec<u16>, Refusal> {
-        let mut list = vec![0; NODES];
-        let told = ffi::path(
-            net.nodes,
-            net.root,
-            &net.starts,
-            &net.ends,
-            &net.costs,
-            &self.distances,
-            &self.parents,
-            &self.firsts,
-            node,
-            &mut list,
-        );
+        let mut list = [0; NODES];
+        let told = lent::path(net, self, node, &mut list);
         told.refusal()?;
-        list.truncate(told.count);
-        Ok(list)
+        Ok(list[..told.count].to_vec())
     }
 
     /// A node's distance from the root, if the tree reaches it.

@@ -4,28 +4,29 @@
 #![forbid(unsafe_code)]
 
 use bench::made::{self, Dice, Kind, Shape};
-use bench::plain;
+use bench::plain::Plain;
 use bench::product::{self, Columns};
 use routes::{Network, Tree, NODES};
 use std::hint::black_box;
 use std::time::{Duration, Instant};
 
-const USAGE: &str = "usage: again plain|build|judge|raised|lowered|mixed LINKS";
+const USAGE: &str = "usage: again simple|packed|build|judge|raised|lowered|mixed LINKS";
 const MESHES: u64 = 64;
 const BATCHES: usize = 8;
 
 struct Given {
     net: Network,
+    packed: Plain,
     tree: Tree,
     batches: Vec<Columns>,
 }
 
 fn given(kind: Kind, links: usize, seed: u64) -> Given {
     let net = made::network(Shape::Mesh, links, seed);
-    let tree = plain::rebuild(&net);
+    let tree = Plain::Simple.rebuild(&net);
     let mut dice = Dice::new(seed);
     let batches = (0..BATCHES).map(|_| Columns::of(&made::batch(kind, &net, &tree, &mut dice))).collect();
-    Given { net, tree, batches }
+    Given { packed: Plain::packed(&net), net, tree, batches }
 }
 
 fn update(given: &Given, place: usize) {
@@ -50,7 +51,8 @@ fn main() {
         for place in 0..BATCHES {
             for given in &meshes {
                 match job.as_str() {
-                    "plain" => drop(black_box(plain::rebuild(&given.net))),
+                    "simple" => drop(black_box(Plain::Simple.rebuild(&given.net))),
+                    "packed" => drop(black_box(given.packed.rebuild(&given.net))),
                     "build" => product::build(&given.net, &mut tree),
                     "judge" => product::judge_tree(&given.net, &given.tree),
                     "raised" | "lowered" | "mixed" => update(given, place),

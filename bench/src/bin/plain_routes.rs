@@ -1,10 +1,14 @@
 //! The program `routes` as people would write it: from standard input to standard output, the tree made from nothing at
-//! each APPLY. It judges nothing, and takes a right stream only; any other ends it.
+//! each APPLY, by the plain program named. It judges nothing, and takes a right stream only; any other ends it.
+//!
+//!     plain_routes simple|packed <STREAM
 #![forbid(unsafe_code)]
 
-use bench::plain;
+use bench::plain::Plain;
 use routes::{Change, Network, Tree, NO_LINK};
 use std::io::{BufWriter, Read, StdoutLock, Write};
+
+const USAGE: &str = "usage: plain_routes simple|packed <STREAM";
 
 struct Records<'a>(&'a [u8]);
 
@@ -43,10 +47,21 @@ fn apply(out: &mut impl Write, changed: &[u16]) -> std::io::Result<()> {
     writeln!(out)
 }
 
-fn run(stream: &[u8], out: &mut BufWriter<StdoutLock>) -> std::io::Result<()> {
+// The plain program of that name, once all links are read, and the tree that it makes of them.
+fn begun(name: &str, net: &Network) -> (Plain, Tree) {
+    let plain = match name {
+        "simple" => Plain::Simple,
+        "packed" => Plain::packed(net),
+        _ => panic!("{USAGE}"),
+    };
+    let tree = plain.rebuild(net);
+    (plain, tree)
+}
+
+fn run(name: &str, stream: &[u8], out: &mut BufWriter<StdoutLock>) -> std::io::Result<()> {
     let mut records = Records(stream);
     let mut net = Network::with_links(0, 0, []);
-    let mut tree: Option<Tree> = None;
+    let mut standing: Option<(Plain, Tree)> = None;
     let mut batch = Vec::new();
     while let Some(kind) = records.kind() {
         match kind {
@@ -58,11 +73,11 @@ fn run(stream: &[u8], out: &mut BufWriter<StdoutLock>) -> std::io::Result<()> {
             }
             3 => batch.push(Change { link: records.number(), cost: records.number() }),
             4 => {
-                let tree = tree.get_or_insert_with(|| plain::rebuild(&net));
-                apply(out, &plain::update(&mut net, tree, &batch))?;
+                let (plain, tree) = standing.get_or_insert_with(|| begun(name, &net));
+                apply(out, &plain.update(&mut net, tree, &batch))?;
                 batch.clear();
             }
-            5 => ask(out, tree.get_or_insert_with(|| plain::rebuild(&net)), records.number())?,
+            5 => ask(out, &standing.get_or_insert_with(|| begun(name, &net)).1, records.number())?,
             _ => panic!("a record of no kind"),
         }
     }
@@ -70,9 +85,10 @@ fn run(stream: &[u8], out: &mut BufWriter<StdoutLock>) -> std::io::Result<()> {
 }
 
 fn main() -> std::io::Result<()> {
+    let name = std::env::args().nth(1).expect(USAGE);
     let mut stream = Vec::new();
     std::io::stdin().lock().read_to_end(&mut stream)?;
     let mut out = BufWriter::new(std::io::stdout().lock());
-    run(&stream, &mut out)?;
+    run(&name, &stream, &mut out)?;
     out.flush()
 }

@@ -1,16 +1,18 @@
 // Building, updating and asking for paths: a line for each call, with what the call is, the refusal's number, the value
 // that it carries, for an update and a path the count, and then all that the call may write: the rows of the tree that
 // aren't empty (node:distance,parent,first), the cost column and the list, lent part and all.
-use crate::calls;
 use crate::pier::{chain, net, p1_with, pier, with_rows, COSTS, ENDS, STARTS};
-use routes::ffi::Reply;
-use routes::{Network, Tree, NODES, NO_LINK, UNREACHED};
+use routes::ffi::{Batch, Reply};
+use routes::{lent, Network, Tree, NODES, NO_LINK, UNREACHED};
 
 // ---- how a line is laid out
 
 // What stands in a list before it is lent: no node and no link of the cases.
 const LIST: [u16; 6] = [7001, 7002, 7003, 7004, 7005, 7006];
 const LONG_LIST: [u16; 300] = [7000; 300];
+
+// What stands in a tree before it is built: no entry is one that a build could leave.
+const UNSET: Tree = Tree { distances: [u32::MAX; NODES], parents: [60_000; NODES], firsts: [60_000; NODES] };
 
 fn said_link(link: u16) -> String {
     if link == NO_LINK {
@@ -105,7 +107,8 @@ impl Run {
     }
 
     fn say_build(&self, name: &str) -> Tree {
-        let (reply, tree) = calls::build(&self.net);
+        let mut tree = UNSET;
+        let reply = lent::build(&self.net, &mut tree);
         line(name, &[judged(reply), self.saying.rows(&tree)]);
         tree
     }
@@ -119,21 +122,21 @@ impl Run {
     // Lends the first `room` places of the list.
     fn step(&mut self, name: &str, links: &[u16], costs: &[u16], room: usize) {
         let mut list = self.saying.list();
-        let reply = calls::update(&mut self.net, &mut self.tree, links, costs, &mut list[..room]);
+        let reply = lent::update(&mut self.net, &mut self.tree, Batch { links, costs }, &mut list[..room]);
         let (rows, column) = (self.saying.rows(&self.tree), self.saying.column(&self.net.costs));
         line(name, &[counted(reply), rows, column, self.saying.column(&list)]);
     }
 
     fn ask(&self, name: &str, node: usize, room: usize) {
         let mut list = LIST;
-        let reply = calls::path(&self.net, &self.tree, node, &mut list[..room]);
+        let reply = lent::path(&self.net, &self.tree, node, &mut list[..room]);
         line(name, &[counted(reply), Saying::Whole.column(&list)]);
     }
 
     // For the chain's last node: its last link, the place behind it, and the whole list folded.
     fn long_ask(&self, name: &str, room: usize) {
         let mut list = LONG_LIST;
-        let reply = calls::path(&self.net, &self.tree, 255, &mut list[..room]);
+        let reply = lent::path(&self.net, &self.tree, 255, &mut list[..room]);
         line(name, &[counted(reply), Saying::Whole.column(&list[254..256]), self.saying.column(&list)]);
     }
 }

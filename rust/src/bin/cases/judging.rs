@@ -1,8 +1,7 @@
 // Judging: a line for each case, with what the case is, the refusal's number and the value that it carries.
-use crate::calls;
 use crate::pier::{chain, net, p1_with, pier, with_rows, Row, COSTS, ENDS, STARTS};
 use routes::ffi::Reply;
-use routes::{Network, Tree, NO_LINK, UNREACHED};
+use routes::{lent, Network, Tree, NO_LINK, UNREACHED};
 
 const TOP: u32 = u32::MAX;
 
@@ -11,12 +10,12 @@ fn say(name: &str, reply: Reply) {
 }
 
 fn table(name: &str, table: Network) {
-    say(name, calls::judge_links(&table));
+    say(name, lent::judge_links(&table));
 }
 
 // A tree of the pier network: P1's, with other rows.
 fn at_pier(name: &str, rows: &[Row]) {
-    say(name, calls::judge_tree(&pier(), &p1_with(rows)));
+    say(name, lent::judge_tree(&pier(), &p1_with(rows)));
 }
 
 // Each entry damaged by itself.
@@ -68,14 +67,14 @@ fn forged() {
 fn entered(name: &str, distance: u32) {
     let table = Network::with_links(3, 0, [(0, 2, 7), (2, 1, 2)]);
     let tree = with_rows(Tree::empty(), &[(0, 0, NO_LINK, NO_LINK), (2, distance, 0, 0)]);
-    say(name, calls::judge_tree(&table, &tree));
+    say(name, lent::judge_tree(&table, &tree));
 }
 
 // Two links from 0 to 1 at one cost, then one at another; the tree may hang on either of the first two.
 fn parallel(name: &str, distance: u32, by: u16) {
     let table = Network::with_links(2, 0, [(0, 1, 5), (0, 1, 5), (0, 1, 6)]);
     let tree = with_rows(Tree::empty(), &[(0, 0, NO_LINK, NO_LINK), (1, distance, by, by)]);
-    say(name, calls::judge_tree(&table, &tree));
+    say(name, lent::judge_tree(&table, &tree));
 }
 
 fn sizes() {
@@ -110,9 +109,9 @@ fn several() {
     table("4 behind 5", net(3, 0, &[2, 1, 0, 0], &[0, 0, 1, 3], &[1, 1, 1, 1]));
     table("4 and 5 at one link", net(3, 0, &[2, 1], &[0, 1], &[1, 1]));
     let unfit = p1_with(&[(1, 9, 9, 9)]);
-    say("5 before 6", calls::judge_tree(&net(3, 0, &[2, 1], &[0, 0], &[1, 1]), &unfit));
-    say("1 before 6", calls::judge_tree(&net(0, 0, &[2, 1], &[0, 0], &[1, 1]), &unfit));
-    say("3 before 6", calls::judge_tree(&net(3, 0, &[2, 1], &[0, 0], &[1]), &unfit));
+    say("5 before 6", lent::judge_tree(&net(3, 0, &[2, 1], &[0, 0], &[1, 1]), &unfit));
+    say("1 before 6", lent::judge_tree(&net(0, 0, &[2, 1], &[0, 0], &[1, 1]), &unfit));
+    say("3 before 6", lent::judge_tree(&net(3, 0, &[2, 1], &[0, 0], &[1]), &unfit));
 }
 
 // The chain, its last node at `last`.
@@ -121,7 +120,7 @@ fn chain_to(last: u32) {
     for node in 1..256 {
         tree = with_rows(tree, &[(node, node as u32 * 65_535, node as u16 - 1, 0)]);
     }
-    say(&format!("chain to {last}"), calls::judge_tree(&chain(), &with_rows(tree, &[(255, last, 254, 0)])));
+    say(&format!("chain to {last}"), lent::judge_tree(&chain(), &with_rows(tree, &[(255, last, 254, 0)])));
 }
 
 pub fn run() {

@@ -6,7 +6,6 @@
 // language: `cases judging` is compared with tests/judging.py, `cases changing` with tests/changing.py.
 #![forbid(unsafe_code)]
 
-mod calls;
 mod changing;
 mod judging;
 mod pier;

@@ -2,7 +2,8 @@
 use crate::interpret::Record;
 use crate::reader::Reading;
 use crate::reckon::{Table, Told, Tree};
-use routes::{ffi, Change, Network, Records, Refusal};
+use routes::ffi::{self, Batch, Net, Rows, RowsMut};
+use routes::{Change, Network, Records, Refusal};
 
 pub trait Product {
     fn judge_links(&self, t: &Table) -> Told;
@@ -24,20 +25,31 @@ pub trait Product {
 // The archive's functions.
 pub struct Archive;
 
+fn lent<'a>(t: &Table<'a>) -> Net<'a> {
+    Net { nodes: t.nodes, root: t.root, starts: t.starts, ends: t.ends }
+}
+
+fn rows(tree: &Tree) -> Rows<'_> {
+    Rows { dist: &tree.dist, parent: &tree.parent, first: &tree.first }
+}
+
+fn rows_mut(tree: &mut Tree) -> RowsMut<'_> {
+    RowsMut { dist: &mut tree.dist, parent: &mut tree.parent, first: &mut tree.first }
+}
+
 impl Product for Archive {
     fn judge_links(&self, t: &Table) -> Told {
-        let told = ffi::judge_links(t.nodes, t.root, t.starts, t.ends, t.costs);
+        let told = ffi::judge_links(lent(t), t.costs);
         (told.number, told.value)
     }
 
     fn judge_tree(&self, t: &Table, tree: &Tree) -> Told {
-        let told = ffi::judge_tree(t.nodes, t.root, t.starts, t.ends, t.costs, &tree.dist, &tree.parent, &tree.first);
+        let told = ffi::judge_tree(lent(t), t.costs, rows(tree));
         (told.number, told.value)
     }
 
     fn build(&self, t: &Table, tree: &mut Tree) -> Told {
-        let Tree { dist, parent, first } = tree;
-        let told = ffi::build(t.nodes, t.root, t.starts, t.ends, t.costs, dist, parent, first);
+        let told = ffi::build(lent(t), t.costs, rows_mut(tree));
         (told.number, told.value)
     }
 
@@ -50,14 +62,12 @@ impl Product for Archive {
         tree: &mut Tree,
         list: &mut [u16],
     ) -> (u16, u16, usize) {
-        let Tree { dist, parent, first } = tree;
-        let told = ffi::update(t.nodes, t.root, t.starts, t.ends, costs, links, prices, dist, parent, first, list);
+        let told = ffi::update(lent(t), costs, Batch { links, costs: prices }, rows_mut(tree), list);
         (told.number, told.value, told.count)
     }
 
     fn path(&self, t: &Table, tree: &Tree, asked: usize, list: &mut [u16]) -> (u16, u16, usize) {
-        let Tree { dist, parent, first } = tree;
-        let told = ffi::path(t.nodes, t.root, t.starts, t.ends, t.costs, dist, parent, first, asked, list);
+        let told = ffi::path(lent(t), t.costs, rows(tree), asked, list);
         (told.number, told.value, told.count)
     }
 }
@@ -145,6 +155,7 @@ pub fn records(stream: &[u8]) -> Vec<Result<Record, (u16, usize)>> {
         routes::Record::Change(Change { link, cost }) => Record::Change { link, cost },
         routes::Record::Apply => Record::Apply,
         routes::Record::Ask { node } => Record::Ask { node },
+        other => panic!("{other:?} is a record that the scope doesn't know"),
     };
     Records::new(stream).map(|read| read.map(own).map_err(|refusal| (refusal.number(), refusal.place()))).collect()
 }
