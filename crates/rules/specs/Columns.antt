@@ -9,6 +9,7 @@ use lib.ListN.{length, getD, set, replicate}
 use Rattle.rules.specs.Net.{Net}
 use Rattle.rules.specs.Tree.{Rows}
 use Rattle.rules.specs.declared.Change.{Change}
+use Rattle.rules.specs.declared.Profile.{Profile}
 
 abbrev pub mostNodes : ℕ
 mostNodes = 256
@@ -44,9 +45,13 @@ pub record Table : Type 0 where
 abbrev pub table : ℕ → ℕ → List ℕ → List ℕ → List ℕ → Table
 table nodes root starts ends costs = record { nodes = nodes; root = root; starts = starts; ends = ends; costs = costs }
 
+-- the numbers of 16-bit costs
+abbrev pub narrow : Profile
+narrow = record { most = mostCost; ceiling = noCeiling; mark = unreached }
+
 -- a link's number is its place, from 0; every link is open, so it is usable when its cost isn't 0
-abbrev pub netOf : Table → Net
-netOf t = record {
+abbrev pub netIn : Profile → Table → Net
+netIn p t = record {
   nodes = t .nodes;
   root = t .root;
   links = length (t .starts);
@@ -54,11 +59,14 @@ netOf t = record {
   end = λ k. getD (t .ends) k 0;
   cost = λ k. getD (t .costs) k 0;
   is-open = λ k. true;
-  most = mostCost;
-  ceiling = noCeiling;
-  mark = unreached;
+  most = p .most;
+  ceiling = p .ceiling;
+  mark = p .mark;
   none = noLink;
 }
+
+abbrev pub netOf : Table → Net
+netOf t = netIn narrow t
 
 -- what an accepted table keeps: proofs/Judged.antt shows it of every table that passes refusals 1 to 5
 pub record Proper (t : Table) : Type 0 where
@@ -87,12 +95,15 @@ pub record Whole (t : Tree) : Type 0 where
   pub parent : length (t .parent) ≡ mostNodes
   pub first : length (t .first) ≡ mostNodes
 
-abbrev pub rowsOf : Tree → Rows
-rowsOf t = record {
-  dist = λ v. getD (t .dist) v unreached;
+abbrev pub rowsIn : Profile → Tree → Rows
+rowsIn p t = record {
+  dist = λ v. getD (t .dist) v (p .mark);
   parent = λ v. getD (t .parent) v noLink;
   first = λ v. getD (t .first) v noLink;
 }
+
+abbrev pub rowsOf : Tree → Rows
+rowsOf t = rowsIn narrow t
 
 -- every node unreached, and no links in it
 abbrev pub emptyTree : Tree

@@ -1,5 +1,6 @@
-// What a job answers and what a batch holds. What they mean stands in specs/.
+// What a job answers, what a batch holds and what numbers a profile has. What they mean stands in specs/.
 ghost use mathlib.Core.Path.{_≡_};
+ghost use Rattle.rules.specs.Columns.{narrow};
 ghost use Rattle.rules.specs.Answers.{numberOf, valueOf};
 
 // Accepted, or one of the refusals of the scope's table, with the value that it carries.
@@ -21,6 +22,25 @@ pub enum Answer {
     AskedNoNode,
     AskedUnreached,
     ListTooShort,
+}
+
+// The numbers by which a table's costs are read: the largest cost, the sum from which on a path is no route, and the
+// distance of an unreached node.
+pub struct Profile {
+    pub most: u32,
+    pub ceiling: u64,
+    pub mark: u32,
+}
+
+// The profile of 16-bit costs.
+pub fn narrow() -> Profile
+    ensures { λ r. ⌜ r ≡ narrow ⌝ }
+{
+    Profile {
+        most: 65_535,
+        ceiling: 8_589_934_592,
+        mark: 16_777_215,
+    }
 }
 
 // A row of a batch.
