@@ -1,7 +1,7 @@
 -- The two passes, one step further, and what the tests of a row decide. Assumes nothing.
-use mathlib.Core.Path.{_≡_, refl, _∙_}
+use mathlib.Core.Path.{_≡_, refl, sym, _∙_}
 use mathlib.Core.Logic.{_≢_}
-use mathlib.Core.Bool.{Bool, true, false, _&&_, and-true, true≢false}
+use mathlib.Core.Bool.{Bool, true, false, _&&_, and-false, true≢false}
 use mathlib.Core.List.{List}
 use Prim.Native.Nat.{ℕ, _+_, _≤_, _<_}
 use native.Mathlib.Omega.{arith}
@@ -12,115 +12,131 @@ use borrow.Author.Count.{below-more}
 use borrow.Author.Tests.{lt-ltb, le-ltb, eq-eqb, ne-eqb}
 use Rattle.rules.specs.Net.{Net}
 use Rattle.rules.specs.Tree.{Rows}
-use Rattle.rules.specs.Tests.{usable, reached, tight}
-use Rattle.rules.specs.Columns.{Whole, mostNodes, unreached, noLink, noCeiling, arrays}
+use Rattle.rules.specs.Tests.{usable}
+use Rattle.rules.specs.Columns.{Table, Tree, Proper, Whole, netIn, rowsIn, mostNodes, noLink}
+use Rattle.rules.specs.declared.Profile.{Profile}
 use Rattle.rules.proofs.Logic.{getD-any}
-use Rattle.fit.specs.Given.{net, rows}
-use Rattle.fit.specs.Passes.{offends, Offended, LeastOffended, Judged, emptyAt, tightBy, firstOf, hungAlone, rowAlone, RightBefore}
+use Rattle.fit.specs.Passes.{offersLess, offends, Offended, LeastOffended, emptyAt, tightBy, firstOf, hungBy, hungAlone, rowAlone, RightBefore}
 
 -- ---- the pass over the links, one link further
 
-offended-more : {ss es cs ds : List ℕ} {n v : ℕ} → Offended ss es cs ds n v → Offended ss es cs ds (n + 1) v
+offended-more : {N : Net} {dist : ℕ → ℕ} {n v : ℕ} → Offended N dist n v → Offended N dist (n + 1) v
 offended-more o = record { link = o .link; is-link = omega (arith, o .is-link); ends-at = o .ends-at; offends = o .offends }
 
 -- no link yet
-pub least-none : (ss es cs ds : List ℕ) → LeastOffended ss es cs ds 0 mostNodes
-least-none ss es cs ds = record {
+pub least-none : (N : Net) (dist : ℕ → ℕ) → LeastOffended N dist 0 mostNodes
+least-none N dist = record {
   within = omega arith;
   least = λ k l o. absurd (omega arith);
   offended = λ l. absurd (omega arith);
 }
 
 -- a link more that ends no sooner
-pub least-later : {ss es cs ds : List ℕ} {n v : ℕ} → LeastOffended ss es cs ds n v
-    → (offends ss es cs ds n ≡ true → v ≤ getD es n 0) → LeastOffended ss es cs ds (n + 1) v
-least-later {ss} {es} {cs} {ds} {n} {v} h later = record {
+pub least-later : {N : Net} {dist : ℕ → ℕ} {n v : ℕ} → LeastOffended N dist n v
+    → (offends N dist n ≡ true → v ≤ N .end n) → LeastOffended N dist (n + 1) v
+least-later {N} {dist} {n} {v} h later = record {
   within = h .within;
-  least = below-more (λ (k : ℕ). offends ss es cs ds k ≡ true → v ≤ getD es k 0) n (h .least) later;
+  least = below-more (λ (k : ℕ). offends N dist k ≡ true → v ≤ N .end k) n (h .least) later;
   offended = λ l. offended-more (h .offended l);
 }
 
 -- a link more that offers its end nothing less
-pub least-skip : {ss es cs ds : List ℕ} {n v : ℕ} {b : Bool} → LeastOffended ss es cs ds n v
-    → b ≡ offends ss es cs ds n → b ≡ false → LeastOffended ss es cs ds (n + 1) v
+pub least-skip : {N : Net} {dist : ℕ → ℕ} {n v : ℕ} {b : Bool} → LeastOffended N dist n v
+    → b ≡ offends N dist n → b ≡ false → LeastOffended N dist (n + 1) v
 least-skip h is fails = least-later h (λ o. absurd (true≢false (cc)))
 
 -- a link more that offers its end less, and ends sooner
-pub least-take : {ss es cs ds : List ℕ} {n v : ℕ} {b : Bool} → LeastOffended ss es cs ds n v
-    → b ≡ offends ss es cs ds n → b ≡ true → getD es n 0 < v → LeastOffended ss es cs ds (n + 1) (getD es n 0)
-least-take {ss} {es} {cs} {ds} {n} {v} h is passes sooner = record {
+pub least-take : {N : Net} {dist : ℕ → ℕ} {n v : ℕ} {b : Bool} → LeastOffended N dist n v
+    → b ≡ offends N dist n → b ≡ true → N .end n < v → LeastOffended N dist (n + 1) (N .end n)
+least-take {N} {dist} {n} {v} h is passes sooner = record {
   within = omega (arith, h .within);
   least =
-      below-more (λ (k : ℕ). offends ss es cs ds k ≡ true → getD es n 0 ≤ getD es k 0) n
+      below-more (λ (k : ℕ). offends N dist k ≡ true → N .end n ≤ N .end k) n
       (λ k l o. omega (arith, h .least k l o))
       (λ o. omega arith);
   offended = λ l. record { link = n; is-link = omega arith; ends-at = refl; offends = cc };
 }
 
+-- ---- what stands in the columns and arrays
+
+-- a link's start and end have rows
+module _ {t : Table} (proper : Proper t) {k : ℕ} (is-link : k < length (t .starts)) where
+  pub start-has-row : getD (t .starts) k 0 < mostNodes
+  start-has-row = omega (arith, proper .few-nodes, proper .starts k is-link)
+
+  pub end-has-row : getD (t .ends) k 0 < mostNodes
+  end-has-row = omega (arith, proper .few-nodes, proper .ends k is-link)
+
+-- below 256 an array is read as a row, whatever stands in for the others
+pub read-row : (l : List ℕ) → length l ≡ mostNodes → (v other : ℕ) → v < mostNodes → getD l v 0 ≡ getD l v other
+read-row l long v other has-row = getD-any l v 0 other (omega arith)
+
+-- what is read of a link and of its ends decides
+module _ (p : Profile) {t : Table} (proper : Proper t) (ds : List ℕ) (long : length ds ≡ mostNodes) {k : ℕ} (is-link : k < length (t .starts)) where
+  pub offends-reads : offends (netIn p t) (λ v. getD ds v (p .mark)) k
+      ≡ (offersLess (p .mark) (p .ceiling) (getD ds (getD (t .starts) k 0) 0) (getD (t .costs) k 0) (getD ds (getD (t .ends) k 0) 0)
+      && usable (netIn p t) k)
+  unfolding offends
+  offends-reads =
+      rw (
+        read-row ds long (getD (t .starts) k 0) (p .mark) (start-has-row proper is-link),
+        read-row ds long (getD (t .ends) k 0) (p .mark) (end-has-row proper is-link),
+      )
+
+  pub hung-by-reads : (fs : List ℕ) → length fs ≡ mostNodes → (v : ℕ) → v < mostNodes
+      → hungBy (netIn p t) (λ u. getD ds u (p .mark)) (λ u. getD fs u noLink) k v
+      ≡ (tightBy (p .mark) v (getD ds v 0) (getD (t .ends) k 0) (getD (t .costs) k 0) (getD ds (getD (t .starts) k 0) 0)
+      && eqb (getD fs v 0) (firstOf (t .root) k (getD (t .starts) k 0) (getD fs (getD (t .starts) k 0) 0)) && usable (netIn p t) k)
+  unfolding hungBy
+  hung-by-reads fs firsts v has-row =
+      rw (
+        read-row ds long (getD (t .starts) k 0) (p .mark) (start-has-row proper is-link),
+        read-row ds long v (p .mark) has-row,
+        read-row fs firsts (getD (t .starts) k 0) noLink (start-has-row proper is-link),
+        read-row fs firsts v noLink has-row,
+      )
+
 -- ---- a row by itself
 
--- no node hangs at or above the node count
-pub hung-past : (N : Net) (r : Rows) (v : ℕ) → N .nodes ≤ v → false ≡ hungAlone N r v
-unfolding hungAlone
-hung-past N r v l = rw (le-ltb v (N .nodes) l)
+module _ (N : Net) (r : Rows) (v : ℕ) where
+  -- no node hangs at or above the node count
+  pub hung-past : N .nodes ≤ v → false ≡ hungAlone N r v
+  unfolding hungAlone
+  hung-past l = rw (le-ltb v (N .nodes) l)
 
-module _ {ds ps fs : List ℕ} (w : Whole (arrays ds ps fs)) {v : ℕ} (has-row : v < mostNodes) where
-  pub read-dist : getD ds v 0 ≡ rows ds ps fs .dist v
-  read-dist = getD-any ds v 0 unreached (omega (arith, w .dist))
+  -- none hangs at the ceiling or above
+  pub hung-far : v < N .nodes → N .ceiling ≤ r .dist v → false ≡ hungAlone N r v
+  unfolding hungAlone
+  hung-far is-node far = rw (lt-ltb v (N .nodes) is-node, le-ltb (r .dist v) (N .ceiling) far)
 
-  read-parent : getD ps v 0 ≡ rows ds ps fs .parent v
-  read-parent = getD-any ps v 0 noLink (omega (arith, w .parent))
+  module _ (is-node : v < N .nodes) (is-route : r .dist v < N .ceiling) where
+    here : hungAlone N r v ≡ hungBy N (r .dist) (r .first) (r .parent v) v
+    unfolding hungAlone
+    here = rw (lt-ltb v (N .nodes) is-node, lt-ltb (r .dist v) (N .ceiling) is-route)
 
-  read-first : getD fs v 0 ≡ rows ds ps fs .first v
-  read-first = getD-any fs v 0 noLink (omega (arith, w .first))
+    -- none hangs by what is no link
+    pub hung-unlinked : N .links ≤ r .parent v → false ≡ hungAlone N r v
+    unfolding hungBy usable
+    hung-unlinked past = rw (here, le-ltb (r .parent v) (N .links) past, and-false)
 
-module _ (nodes root : ℕ) {ss es cs ds ps fs : List ℕ} (j : Judged ss es cs) (w : Whole (arrays ds ps fs))
-    {v : ℕ} (has-row : v < mostNodes) where
-  -- none hangs by what is no link
-  pub hung-unlinked : v < nodes → getD ds v 0 < noCeiling → length ss ≤ getD ps v 0
-      → false ≡ hungAlone (net nodes root ss es cs) (rows ds ps fs) v
-  unfolding hungAlone tight usable
-  hung-unlinked is-node counts past =
-      let is-route = lt-ltb (getD ds v unreached) noCeiling (omega (arith, read-dist w has-row)) in
-      let not-there = le-ltb (getD ps v noLink) (length ss) (omega (arith, read-parent w has-row)) in
-      rw (lt-ltb v nodes is-node, is-route, not-there)
-
-  -- what is read of v's row, of its parent link and of where that starts, decides
-  pub hung-by : {b : Bool}
-      → b ≡ (tightBy v (getD ds v 0) (getD es (getD ps v 0) 0) (getD cs (getD ps v 0) 0) (getD ds (getD ss (getD ps v 0) 0) 0)
-      && eqb (getD fs v 0) (firstOf root (getD ps v 0) (getD ss (getD ps v 0) 0) (getD fs (getD ss (getD ps v 0) 0) 0)))
-      → v < nodes → getD ds v 0 < noCeiling → getD ps v 0 < length ss
-      → b ≡ hungAlone (net nodes root ss es cs) (rows ds ps fs) v
-  unfolding hungAlone tight usable reached tightBy
-  hung-by is is-node counts there =
-      let from = j .starts-have-rows (getD ps v 0) there in
-      let is-route = lt-ltb (getD ds v unreached) noCeiling (omega (arith, read-dist w has-row)) in
-      let is-there = lt-ltb (getD ps v noLink) (length ss) (omega (arith, read-parent w has-row)) in
-      rw is
-      (rw (read-dist w from, read-first w from, read-dist w has-row, read-first w has-row, read-parent w has-row)
-      (rw (lt-ltb v nodes is-node, is-route, is-there, and-true)))
+    pub hung-by : {b : Bool} → b ≡ hungBy N (r .dist) (r .first) (r .parent v) v → b ≡ hungAlone N r v
+    hung-by is = is ∙ sym here
 
   -- the root's row is empty at distance 0
-  pub row-root : {b : Bool} → b ≡ emptyAt 0 (getD ds v 0) (getD ps v 0) (getD fs v 0) → v ≡ root
-      → b ≡ rowAlone (net nodes root ss es cs) (rows ds ps fs) v
+  pub row-root : {b : Bool} → b ≡ emptyAt (N .none) 0 (r .dist v) (r .parent v) (r .first v) → v ≡ N .root → b ≡ rowAlone N r v
   unfolding rowAlone
-  row-root is at-root = rw (eq-eqb v root at-root, ← read-dist w has-row, ← read-parent w has-row, ← read-first w has-row) is
+  row-root is at-root = rw (eq-eqb v (N .root) at-root) is
 
   -- an unreached node's is empty
-  pub row-bare : {b : Bool} → b ≡ emptyAt unreached (getD ds v 0) (getD ps v 0) (getD fs v 0) → v ≢ root
-      → getD ds v 0 ≡ unreached → b ≡ rowAlone (net nodes root ss es cs) (rows ds ps fs) v
+  pub row-bare : {b : Bool} → b ≡ emptyAt (N .none) (N .mark) (r .dist v) (r .parent v) (r .first v) → v ≢ N .root → r .dist v ≡ N .mark
+      → b ≡ rowAlone N r v
   unfolding rowAlone
-  row-bare is off-root far =
-      let is-far = eq-eqb (getD ds v 0) unreached far in
-      rw (ne-eqb v root off-root, ← read-dist w has-row, is-far, ← read-parent w has-row, ← read-first w has-row)
-      (rw is-far at is)
+  row-bare is off-root far = rw (ne-eqb v (N .root) off-root, eq-eqb (r .dist v) (N .mark) far) (rw (eq-eqb (r .dist v) (N .mark) far) at is)
 
   -- any other hangs
-  pub row-hung : {b : Bool} → b ≡ hungAlone (net nodes root ss es cs) (rows ds ps fs) v → v ≢ root → getD ds v 0 ≢ unreached
-      → b ≡ rowAlone (net nodes root ss es cs) (rows ds ps fs) v
+  pub row-hung : {b : Bool} → b ≡ hungAlone N r v → v ≢ N .root → r .dist v ≢ N .mark → b ≡ rowAlone N r v
   unfolding rowAlone
-  row-hung is off-root near =
-      rw (ne-eqb v root off-root, ne-eqb (getD ds v unreached) unreached (λ e. near (read-dist w has-row ∙ e))) is
+  row-hung is off-root near = rw (ne-eqb v (N .root) off-root, ne-eqb (r .dist v) (N .mark) near) is
 
 -- ---- the pass over the rows, one row further
 

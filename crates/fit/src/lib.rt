@@ -3,67 +3,92 @@ ghost use mathlib.Core.Path.{_≡_};
 ghost use mathlib.Core.Bool.{_&&_};
 ghost use Prim.Native.Nat.{_<_};
 ghost use lib.Dec.{eqb, ltb};
-ghost use lib.ListN.{length, getD};
+ghost use lib.ListN.{length};
 ghost use Rattle.rules.specs.Tests.{pick};
-ghost use Rattle.rules.specs.Columns.{arrays, Whole, mostNodes, table};
-ghost use Rattle.rules.specs.Refusals.{accepted, refused, judgeLinks, judgeTree};
+ghost use Rattle.rules.specs.Columns.{Proper, arrays, Whole, mostNodes, noLink};
+ghost use Rattle.rules.specs.Lent.{lent, lentTable, lentTree};
+ghost use Rattle.rules.specs.Refusals.{accepted, refused, judgeLinks, judgeTree, judgeTreeIn};
 ghost use Rattle.rules.specs.Answers.{told};
-ghost use Rattle.fit.specs.Given.{net, rows};
-ghost use Rattle.fit.specs.Passes.{Judged, leads, offersLess, LeastOffended, emptyAt, tightBy, firstOf, hungAlone, rowAlone, FirstWrong};
+ghost use Rattle.usable.specs.Standing.{tableAt, lentTableAt, lentNet};
+ghost use Rattle.fit.specs.Given.{lentDist, lentFirst, lentRows};
+ghost use Rattle.fit.specs.Passes.{counts, offersLess, offends, LeastOffended, emptyAt, tightBy, firstOf, hungBy, hungAlone, rowAlone, FirstWrong};
 use rules::Answer;
-
-const UNREACHED: u32 = 16_777_215;
+use rules::Profile;
 
 const NO_LINK: u16 = 65_535;
 
 const NODES: usize = 256;
 
-// A link of this cost, from a node at distance `from`, is usable and leaves a reached node.
-fn leads(from: u32, cost: u16) -> bool
-    ensures { λ r. ⌜ r ≡ leads from cost ⌝ }
+// A sum over a link from a node at distance `from` makes a route.
+fn counts(mark: u32, ceiling: u64, from: u32, sum: u64) -> bool
+    ensures { λ r. ⌜ r ≡ counts mark ceiling from sum ⌝ }
 {
-    if from == UNREACHED {
+    if from == mark {
         return false;
     }
-    0 < cost
+    sum < ceiling
 }
 
-// Such a link offers a node at distance `to` less than it has, or enters it though it is unreached. A forged distance
-// may be as large as its width holds, so the sum is made in 64 bits. Few links pass the first test.
-fn offers_less(from: u32, cost: u16, to: u32) -> bool
-    ensures { λ r. ⌜ r ≡ offersLess from cost to ⌝ }
+// A usable link of this cost, from a node at distance `from`, would offer a node at distance `to` less than it has, or
+// enter it though it is unreached. A forged distance may be as large as its width holds, so the sum is made in 64 bits.
+// Few links pass the first test.
+fn offers_less(mark: u32, ceiling: u64, from: u32, cost: u32, to: u32) -> bool
+    ensures { λ r. ⌜ r ≡ offersLess mark ceiling from cost to ⌝ }
 {
     let sum = from as u64 + cost as u64;
     if to as u64 <= sum {
-        if to != UNREACHED {
+        if to != mark {
             return false;
         }
-        return leads(from, cost);
+        return counts(mark, ceiling, from, sum);
     }
-    leads(from, cost)
+    counts(mark, ceiling, from, sum)
 }
 
-// The same of a link between two nodes of the tree.
-fn link_offends(start: u16, end: u16, cost: u16, dist: &[u32]) -> bool
-    requires { ⌜ (start < mostNodes) × (end < mostNodes) × (length (now dist) ≡ mostNodes) ⌝ }
-    ensures { λ r. ⌜ r ≡ offersLess (getD (now (dist .entry)) start 0) cost (getD (now (dist .entry)) end 0) ⌝ }
+// Link k offers its end less than it has, or enters it though it is unreached. Whether it is usable is asked last.
+fn link_offends(
+    profile: Profile,
+    nodes: usize,
+    root: usize,
+    starts: &[u16],
+    ends: &[u16],
+    narrow: &[u16],
+    wide: &[u32],
+    dist: &[u32],
+    k: usize,
+) -> bool
+    requires { ⌜ Proper (tableAt nodes root (now starts) (now ends) (now narrow) (now wide)) × (length (now dist) ≡ mostNodes) × (k < length (now starts)) ⌝ }
+    ensures { λ r. ⌜ r ≡ offends (lentNet profile nodes root starts ends narrow wide) (lentDist profile dist) k ⌝ }
 {
-    let from = start as usize;
-    let to = end as usize;
-    offers_less(dist[from], cost, dist[to])
+    let from = starts[k] as usize;
+    let to = ends[k] as usize;
+    let cost = costs::at(narrow, wide, k);
+    if offers_less(profile.mark, profile.ceiling, dist[from], cost, dist[to]) {
+        return usable::usable(profile, nodes, root, starts, ends, narrow, wide, k);
+    }
+    false
 }
 
 // The smallest node that a usable link from a reached node offers less than it has, or 256.
-fn least_offended(starts: &[u16], ends: &[u16], costs: &[u16], dist: &[u32]) -> usize
-    requires { ⌜ Judged (now starts) (now ends) (now costs) × (length (now dist) ≡ mostNodes) ⌝ }
-    ensures { λ r. ⌜ LeastOffended (now (starts .entry)) (now (ends .entry)) (now (costs .entry)) (now (dist .entry)) (length (now (starts .entry))) r ⌝ }
+fn least_offended(
+    profile: Profile,
+    nodes: usize,
+    root: usize,
+    starts: &[u16],
+    ends: &[u16],
+    narrow: &[u16],
+    wide: &[u32],
+    dist: &[u32],
+) -> usize
+    requires { ⌜ Proper (tableAt nodes root (now starts) (now ends) (now narrow) (now wide)) × (length (now dist) ≡ mostNodes) ⌝ }
+    ensures { λ r. ⌜ LeastOffended (lentNet profile nodes root starts ends narrow wide) (lentDist profile dist) (length (lent starts)) r ⌝ }
 {
     let mut least: u16 = 256;
     let mut k: usize = 0;
     while k < starts.len() {
         let next = k + 1;
         let end = ends[k];
-        if link_offends(starts[k], end, costs[k], dist) {
+        if link_offends(profile, nodes, root, starts, ends, narrow, wide, dist, k) {
             if end < least {
                 least = end;
             }
@@ -75,7 +100,7 @@ fn least_offended(starts: &[u16], ends: &[u16], costs: &[u16], dist: &[u32]) -> 
 
 // A row with this distance, and neither a parent nor a first link.
 fn empty_at(wanted: u32, dist: u32, parent: u16, first: u16) -> bool
-    ensures { λ r. ⌜ r ≡ emptyAt wanted dist parent first ⌝ }
+    ensures { λ r. ⌜ r ≡ emptyAt noLink wanted dist parent first ⌝ }
 {
     if dist != wanted {
         return false;
@@ -86,17 +111,14 @@ fn empty_at(wanted: u32, dist: u32, parent: u16, first: u16) -> bool
     first == NO_LINK
 }
 
-// A link to `end`, of this cost, from a node at distance `from`, is usable and tight for node `v` at distance `dist`.
-fn tight_by(v: usize, dist: u32, end: u16, cost: u16, from: u32) -> bool
-    ensures { λ r. ⌜ r ≡ tightBy v dist end cost from ⌝ }
+// A usable link to `end`, of this cost, from a node at distance `from`, would be tight for node `v` at distance `dist`.
+fn tight_by(mark: u32, v: usize, dist: u32, end: u16, cost: u32, from: u32) -> bool
+    ensures { λ r. ⌜ r ≡ tightBy mark v dist end cost from ⌝ }
 {
-    if cost == 0 {
-        return false;
-    }
     if end as usize != v {
         return false;
     }
-    if from == UNREACHED {
+    if from == mark {
         return false;
     }
     from as u64 + cost as u64 == dist as u64
@@ -109,80 +131,92 @@ fn first_by(root: usize, parent: u16, start: usize, first: u16) -> u16
     if start == root { parent } else { first }
 }
 
-// Link `by`, from `start` to `end`, hangs node `v` at distance `d`, and makes `f` its first link.
-fn hangs(
+// Link `by` hangs node `v`, and makes its first link what it is. Whether it is usable is asked last.
+fn hung_by(
+    profile: Profile,
+    nodes: usize,
     root: usize,
-    v: usize,
-    d: u32,
-    f: u16,
-    by: u16,
-    start: u16,
-    end: u16,
-    cost: u16,
+    starts: &[u16],
+    ends: &[u16],
+    narrow: &[u16],
+    wide: &[u32],
     dist: &[u32],
     first: &[u16],
+    by: u16,
+    v: usize,
 ) -> bool
-    requires { ⌜ (start < mostNodes) × (length (now dist) ≡ mostNodes) × (length (now first) ≡ mostNodes) ⌝ }
-    ensures { λ r. ⌜ r ≡ (tightBy v d end cost (getD (now (dist .entry)) start 0) && eqb f (firstOf root by start (getD (now (first .entry)) start 0))) ⌝ }
+    requires { ⌜ Proper (tableAt nodes root (now starts) (now ends) (now narrow) (now wide)) × (length (now dist) ≡ mostNodes) × (length (now first) ≡ mostNodes) × (by < length (now starts)) × (v < mostNodes) ⌝ }
+    ensures { λ r. ⌜ r ≡ hungBy (lentNet profile nodes root starts ends narrow wide) (lentDist profile dist) (lentFirst first) by v ⌝ }
 {
-    let from = start as usize;
-    if tight_by(v, d, end, cost, dist[from]) {
-        return f == first_by(root, by, from, first[from]);
+    let k = by as usize;
+    let from = starts[k] as usize;
+    let cost = costs::at(narrow, wide, k);
+    if tight_by(profile.mark, v, dist[v], ends[k], cost, dist[from]) {
+        if first[v] == first_by(root, by, from, first[from]) {
+            return usable::usable(profile, nodes, root, starts, ends, narrow, wide, k);
+        }
     }
     false
 }
 
 // The row of a reached node `v` hangs it by its parent link, and has the right first link.
 fn hung(
+    profile: Profile,
     nodes: usize,
     root: usize,
     starts: &[u16],
     ends: &[u16],
-    costs: &[u16],
+    narrow: &[u16],
+    wide: &[u32],
     dist: &[u32],
     parent: &[u16],
     first: &[u16],
     v: usize,
 ) -> bool
-    requires { ⌜ Judged (now starts) (now ends) (now costs) × Whole (arrays (now dist) (now parent) (now first)) × (v < mostNodes) ⌝ }
-    ensures { λ r. ⌜ r ≡ hungAlone (net nodes root (now (starts .entry)) (now (ends .entry)) (now (costs .entry))) (rows (now (dist .entry)) (now (parent .entry)) (now (first .entry))) v ⌝ }
+    requires { ⌜ Proper (tableAt nodes root (now starts) (now ends) (now narrow) (now wide)) × Whole (arrays (now dist) (now parent) (now first)) × (v < mostNodes) ⌝ }
+    ensures { λ r. ⌜ r ≡ hungAlone (lentNet profile nodes root starts ends narrow wide) (lentRows profile dist parent first) v ⌝ }
 {
     if nodes <= v {
         return false;
     }
-    let by = parent[v];
-    let k = by as usize;
-    if starts.len() <= k {
+    if profile.ceiling <= dist[v] as u64 {
         return false;
     }
-    hangs(
+    let by = parent[v];
+    if starts.len() <= by as usize {
+        return false;
+    }
+    hung_by(
+        profile,
+        nodes,
         root,
-        v,
-        dist[v],
-        first[v],
-        by,
-        starts[k],
-        ends[k],
-        costs[k],
+        starts,
+        ends,
+        narrow,
+        wide,
         dist,
         first,
+        by,
+        v,
     )
 }
 
 // The row of node `v` is right, what links offer it left aside.
 fn row_right(
+    profile: Profile,
     nodes: usize,
     root: usize,
     starts: &[u16],
     ends: &[u16],
-    costs: &[u16],
+    narrow: &[u16],
+    wide: &[u32],
     dist: &[u32],
     parent: &[u16],
     first: &[u16],
     v: usize,
 ) -> bool
-    requires { ⌜ Judged (now starts) (now ends) (now costs) × Whole (arrays (now dist) (now parent) (now first)) × (v < mostNodes) ⌝ }
-    ensures { λ r. ⌜ r ≡ rowAlone (net nodes root (now (starts .entry)) (now (ends .entry)) (now (costs .entry))) (rows (now (dist .entry)) (now (parent .entry)) (now (first .entry))) v ⌝ }
+    requires { ⌜ Proper (tableAt nodes root (now starts) (now ends) (now narrow) (now wide)) × Whole (arrays (now dist) (now parent) (now first)) × (v < mostNodes) ⌝ }
+    ensures { λ r. ⌜ r ≡ rowAlone (lentNet profile nodes root starts ends narrow wide) (lentRows profile dist parent first) v ⌝ }
 {
     let d = dist[v];
     let p = parent[v];
@@ -190,29 +224,55 @@ fn row_right(
     if v == root {
         return empty_at(0, d, p, f);
     }
-    if d == UNREACHED {
-        return empty_at(UNREACHED, d, p, f);
+    if d == profile.mark {
+        return empty_at(profile.mark, d, p, f);
     }
-    hung(nodes, root, starts, ends, costs, dist, parent, first, v)
+    hung(
+        profile,
+        nodes,
+        root,
+        starts,
+        ends,
+        narrow,
+        wide,
+        dist,
+        parent,
+        first,
+        v,
+    )
 }
 
 // The smallest of the 256 nodes whose row is wrong, what links offer it left aside, or 256.
 fn first_bad_row(
+    profile: Profile,
     nodes: usize,
     root: usize,
     starts: &[u16],
     ends: &[u16],
-    costs: &[u16],
+    narrow: &[u16],
+    wide: &[u32],
     dist: &[u32],
     parent: &[u16],
     first: &[u16],
 ) -> usize
-    requires { ⌜ Judged (now starts) (now ends) (now costs) × Whole (arrays (now dist) (now parent) (now first)) ⌝ }
-    ensures { λ r. ⌜ FirstWrong (net nodes root (now (starts .entry)) (now (ends .entry)) (now (costs .entry))) (rows (now (dist .entry)) (now (parent .entry)) (now (first .entry))) r ⌝ }
+    requires { ⌜ Proper (tableAt nodes root (now starts) (now ends) (now narrow) (now wide)) × Whole (arrays (now dist) (now parent) (now first)) ⌝ }
+    ensures { λ r. ⌜ FirstWrong (lentNet profile nodes root starts ends narrow wide) (lentRows profile dist parent first) r ⌝ }
 {
     let mut v: usize = 0;
     while v < NODES {
-        if row_right(nodes, root, starts, ends, costs, dist, parent, first, v) {
+        if row_right(
+            profile,
+            nodes,
+            root,
+            starts,
+            ends,
+            narrow,
+            wide,
+            dist,
+            parent,
+            first,
+            v,
+        ) {
             v += 1;
         } else {
             return v;
@@ -233,20 +293,33 @@ fn answer(node: usize) -> Answer
 
 // Refusal 6, where the links are judged already.
 fn judge_tree(
+    profile: Profile,
     nodes: usize,
     root: usize,
     starts: &[u16],
     ends: &[u16],
-    costs: &[u16],
+    narrow: &[u16],
+    wide: &[u32],
     dist: &[u32],
     parent: &[u16],
     first: &[u16],
 ) -> Answer
-    requires { ⌜ (judgeLinks (table nodes root (now starts) (now ends) (now costs)) ≡ accepted) × Whole (arrays (now dist) (now parent) (now first)) ⌝ }
-    ensures { λ r. ⌜ told r ≡ judgeTree (table nodes root (now (starts .entry)) (now (ends .entry)) (now (costs .entry))) (arrays (now (dist .entry)) (now (parent .entry)) (now (first .entry))) ⌝ }
+    requires { ⌜ (judgeLinks (tableAt nodes root (now starts) (now ends) (now narrow) (now wide)) ≡ accepted) × Whole (arrays (now dist) (now parent) (now first)) × (0 < profile .mark) ⌝ }
+    ensures { λ r. ⌜ told r ≡ judgeTreeIn profile (lentTableAt nodes root starts ends narrow wide) (lentTree dist parent first) ⌝ }
 {
-    let row = first_bad_row(nodes, root, starts, ends, costs, dist, parent, first);
-    let offended = least_offended(starts, ends, costs, dist);
+    let row = first_bad_row(
+        profile,
+        nodes,
+        root,
+        starts,
+        ends,
+        narrow,
+        wide,
+        dist,
+        parent,
+        first,
+    );
+    let offended = least_offended(profile, nodes, root, starts, ends, narrow, wide, dist);
     if offended < row {
         return answer(offended);
     }
@@ -265,13 +338,26 @@ pub fn judge_lent(
     first: &[u16],
 ) -> Answer
     requires { ⌜ Whole (arrays (now dist) (now parent) (now first)) ⌝ }
-    ensures { λ r. ⌜ told r ≡ judgeTree (table nodes root (now (starts .entry)) (now (ends .entry)) (now (costs .entry))) (arrays (now (dist .entry)) (now (parent .entry)) (now (first .entry))) ⌝ }
+    ensures { λ r. ⌜ told r ≡ judgeTree (lentTable nodes root starts ends costs) (lentTree dist parent first) ⌝ }
 {
     let links = links::judge_links(nodes, root, starts, ends, costs);
     if rules::number(links) != 0 {
         return links;
     }
-    judge_tree(nodes, root, starts, ends, costs, dist, parent, first)
+    let none = [0u32; 0];
+    let profile = rules::narrow();
+    judge_tree(
+        profile,
+        nodes,
+        root,
+        starts,
+        ends,
+        costs,
+        &none,
+        dist,
+        parent,
+        first,
+    )
 }
 
 // The same, whatever is given.
@@ -285,7 +371,7 @@ pub fn judge_rows<'a>(
     parent: &'a [u16; 256],
     first: &'a [u16; 256],
 ) -> Answer
-    ensures { λ r. ⌜ told r ≡ judgeTree (table nodes root (now (starts .entry)) (now (ends .entry)) (now (costs .entry))) (arrays (now (dist .entry)) (now (parent .entry)) (now (first .entry))) ⌝ }
+    ensures { λ r. ⌜ told r ≡ judgeTree (lentTable nodes root starts ends costs) (lentTree dist parent first) ⌝ }
 {
     judge_lent(nodes, root, starts, ends, costs, dist, parent, first)
 }

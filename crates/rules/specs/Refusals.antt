@@ -6,8 +6,9 @@ use lib.Dec.{eqb, ltb, leb}
 use lib.ListN.{length, getD}
 use Rattle.rules.specs.Tree.{Rows}
 use Rattle.rules.specs.Tests.{pick, firstBelow, reached, breaks}
-use Rattle.rules.specs.Columns.{Table, Tree, netOf, rowsOf, mostNodes, mostLinks, mostRows, unreached, noLink}
+use Rattle.rules.specs.Columns.{Table, Tree, narrow, netIn, netOf, rowsIn, rowsOf, mostNodes, mostLinks, mostRows, noLink}
 use Rattle.rules.specs.declared.Change.{Change}
+use Rattle.rules.specs.declared.Profile.{Profile}
 
 infixr 40 _then_
 -- accepted, or refused with a number of the table and the value that it carries, which is 0 where the table has none
@@ -62,9 +63,12 @@ unfolding wrongEndsAt wrongOrderAt firstBelow
 judgeLinks t = when (wrongNodeCount t) 1 then when (wrongRoot t) 2 then when (wrongColumns t) 3 then judgeEach t
 
 -- 6: the tree given doesn't fit; the smallest node that breaks a rule
+abbrev pub judgeTreeIn : Profile → Table → Tree → Verdict
+judgeTreeIn p t tree = judgeLinks t then whenOne mostNodes (breaks (netIn p t) (rowsIn p tree)) 6
+
 unfoldable pub judgeTree : Table → Tree → Verdict
 unfolding judgeLinks breaks firstBelow
-judgeTree t tree = judgeLinks t then whenOne mostNodes (breaks (netOf t) (rowsOf tree)) 6
+judgeTree t tree = judgeTreeIn narrow t tree
 
 -- the link that a row names
 unfoldable pub linkAt : List Change → ℕ → ℕ

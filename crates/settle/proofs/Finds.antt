@@ -226,7 +226,7 @@ pub carries-tight : {t : Table} {dist keys mins : List ℕ} {k v : ℕ} (parent 
     → Tight (netOf t) (rowsOf (arrays dist parent first)) k v
 carries-tight {t} {dist} {k = k} {v = v} parent first s c =
     let o = c .offers in
-    let usable : Usable (netOf t) k = record { is-link = c .is-link; costs = o .costs } in
+    let usable : Usable (netOf t) k = record { is-link = c .is-link; costs = o .costs; open-is = refl } in
     let reached : distAt dist (getD (t .starts) k 0) ≢ unreached = λ e. omega arith in
     let no-less : distAt dist v ≤ distAt dist (getD (t .starts) k 0) + getD (t .costs) k 0 =
     rw (← c .ends-at) (s .sums .no-less k usable reached (omega (arith, s .lined .most v))) in

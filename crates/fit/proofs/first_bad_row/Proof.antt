@@ -1,29 +1,27 @@
 -- `fit::first_bad_row` meets its contract. The invariant: the rows passed are right. Assumes nothing.
-use Prim.Native.Nat.{_-_, _≤_}
 use mathlib.Core.Path.{sym, _∙_}
+use Prim.Native.Nat.{_-_, _≤_}
 use native.Mathlib.Omega.{arith}
-use Rattle.rules.specs.Columns.{mostNodes}
-use Rattle.fit.specs.Given.{net, rows}
+use borrow.Author.Needs.{needs}
+use Rattle.rules.specs.Columns.{arrays, netIn, rowsIn, mostNodes}
+use Rattle.usable.specs.Standing.{tableAt}
 use Rattle.fit.specs.Passes.{RightBefore}
 use Rattle.fit.proofs.Laws.{right-none, right-more}
-use borrow.Author.Needs.{needs}
 use Rattle.fit.proofs.first_bad_row.Statement.{statement}
 use Rattle.fit.proofs.first_bad_row.Tie as tie
 
 abbrev Inv-loop : tie.InvT-loop
-Inv-loop nodes root starts ends costs dist parent first v₀ v =
-    (v ≤ mostNodes) × RightBefore (net nodes root starts ends costs) (rows dist parent first) v
+Inv-loop profile nodes root starts ends narrow wide dist parent first v₀ v =
+    (v ≤ mostNodes) × RightBefore (netIn profile (tableAt nodes root starts ends narrow wide)) (rowsIn profile (arrays dist parent first)) v
 
 abbrev μ-loop : tie.MeasureT-loop
-μ-loop nodes root starts ends costs dist parent first v₀ v = mostNodes - v
+μ-loop profile nodes root starts ends narrow wide dist parent first v₀ v = mostNodes - v
 
 loop-holds : tie.Need-loop-holds Inv-loop μ-loop
 loop-holds c = (search needs, right-none _ _)
 
 row-right-requires : tie.Need-row-right-requires Inv-loop μ-loop
-row-right-requires c κs =
-    let entry = c .before .before .before .before .before .before .before .before in
-    (entry .pre .0, entry .pre .1, omega arith)
+row-right-requires c κs = let pre = c .before .before .before .before .before .before .before .before .before .pre in (pre .0, pre .1, omega arith)
 
 add-v : tie.Need-add-v Inv-loop μ-loop
 add-v c = search needs

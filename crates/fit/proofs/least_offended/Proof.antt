@@ -1,23 +1,26 @@
 -- `fit::least_offended` meets its contract. The invariant: `least` is the answer for the links passed. What one link
 -- more does to it stands in Laws.antt. Assumes nothing.
-use Prim.Native.Nat.{_-_, _≤_}
 use mathlib.Core.Path.{_≡_}
+use Prim.Native.Nat.{_-_, _≤_}
 use native.Mathlib.Omega.{arith}
-use lib.ListN.{length}
-use Rattle.fit.specs.Passes.{offends, LeastOffended}
-use Rattle.fit.proofs.Laws.{least-none, least-later, least-skip, least-take}
+use lib.ListN.{length, getD}
 use borrow.Author.Needs.{needs}
+use Rattle.rules.specs.Columns.{netIn}
+use Rattle.usable.specs.Standing.{tableAt}
+use Rattle.fit.specs.Passes.{LeastOffended}
+use Rattle.fit.proofs.Laws.{least-none, least-later, least-skip, least-take}
 use Rattle.fit.proofs.least_offended.Statement.{statement}
 use Rattle.fit.proofs.least_offended.Tie as tie
 
 abbrev Inv-loop : tie.InvT-loop
-Inv-loop starts ends costs dist least₀ k₀ least k = (k ≤ length starts) × LeastOffended starts ends costs dist k least
+Inv-loop profile nodes root starts ends narrow wide dist least₀ k₀ least k =
+    (k ≤ length starts) × LeastOffended (netIn profile (tableAt nodes root starts ends narrow wide)) (λ v. getD dist v (profile .mark)) k least
 
 abbrev μ-loop : tie.MeasureT-loop
-μ-loop starts ends costs dist least₀ k₀ least k = length starts - k
+μ-loop profile nodes root starts ends narrow wide dist least₀ k₀ least k = length starts - k
 
 loop-holds : tie.Need-loop-holds Inv-loop μ-loop
-loop-holds c = (search needs, least-none _ _ _ _)
+loop-holds c = (search needs, least-none _ _)
 
 add-next : tie.Need-add-next Inv-loop μ-loop
 add-next c = search needs
@@ -28,57 +31,34 @@ mul-end c = search needs
 shared-slice-read-end : tie.Need-shared-slice-read-end Inv-loop μ-loop
 shared-slice-read-end c = search needs
 
-mul-link-offends : tie.Need-mul-link-offends Inv-loop μ-loop
-mul-link-offends c = search needs
-
-shared-slice-read-link-offends : tie.Need-shared-slice-read-link-offends Inv-loop μ-loop
-shared-slice-read-link-offends c = search needs
-
-mul-link-offends-2 : tie.Need-mul-link-offends-2 Inv-loop μ-loop
-mul-link-offends-2 c = search needs
-
-shared-slice-read-link-offends-2 : tie.Need-shared-slice-read-link-offends-2 Inv-loop μ-loop
-shared-slice-read-link-offends-2 c = search needs
-
 link-offends-requires : tie.Need-link-offends-requires Inv-loop μ-loop
-link-offends-requires c κs =
-    let entry = c .before .before .before .before .before .before .before .before .before in
-    let k = c .before .before .before .before .loop .k in
-    (entry .pre .0 .starts-have-rows k (omega arith), entry .pre .0 .ends-have-rows k (omega arith), entry .pre .1)
+link-offends-requires c κs = let pre = c .before .before .before .before .before .before .before .before .pre in (pre .0, pre .1, omega arith)
 
 loop-less : tie.Need-loop-less Inv-loop μ-loop
 loop-less c = search needs
 
 loop-again : tie.Need-loop-again Inv-loop μ-loop
-unfolding offends
-loop-again c =
-    let inv = c .before .before .before .before .before .before .before .loop .inv in
-    (search needs, least-take (inv .1) (c .before .before .link-offends .ensures) (c .before .if1 .taken) (c .if2 .taken))
+loop-again c = (search needs, least-take (c .before .before .before .before .before .loop .inv .1) (c .before .before .link-offends .ensures) (c .before .if1 .taken) (c .if2 .taken))
 
 loop-less-2 : tie.Need-loop-less-2 Inv-loop μ-loop
 loop-less-2 c = search needs
 
 loop-again-2 : tie.Need-loop-again-2 Inv-loop μ-loop
-loop-again-2 c =
-    let inv = c .before .before .before .before .before .before .before .loop .inv in
-    (search needs, least-later (inv .1) (λ o. c .if2 .left))
+loop-again-2 c = (search needs, least-later (c .before .before .before .before .before .loop .inv .1) (λ o. c .if2 .left))
 
 loop-less-3 : tie.Need-loop-less-3 Inv-loop μ-loop
 loop-less-3 c = search needs
 
 loop-again-3 : tie.Need-loop-again-3 Inv-loop μ-loop
-unfolding offends
-loop-again-3 c =
-    let inv = c .before .before .before .before .before .before .loop .inv in
-    (search needs, least-skip (inv .1) (c .before .link-offends .ensures) (c .if1 .left))
+loop-again-3 c = (search needs, least-skip (c .before .before .before .before .loop .inv .1) (c .before .link-offends .ensures) (c .if1 .left))
 
 cast-result : tie.Need-cast-result Inv-loop μ-loop
 cast-result c = search needs
 
 returns : tie.Need-returns Inv-loop μ-loop
 returns c =
-    let all : c .before .loop .k ≡ length (c .before .before .before .before .before .before .args .starts .now) = omega arith in
-    rw (← all) (c .before .loop .inv .1)
+    let all : c .before .loop .k ≡ length (c .before .before .before .before .before .before .before .args .starts .now) = omega arith in
+    rw all at (c .before .loop .inv .1)
 
 pub least-offended-spec : {M : Type 1} → statement M
 least-offended-spec =
@@ -90,10 +70,6 @@ least-offended-spec =
     add-next
     mul-end
     shared-slice-read-end
-    mul-link-offends
-    shared-slice-read-link-offends
-    mul-link-offends-2
-    shared-slice-read-link-offends-2
     link-offends-requires
     loop-less
     loop-again

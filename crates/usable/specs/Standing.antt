@@ -1,0 +1,20 @@
+-- The table and the network that stand in lent columns. Assumes nothing.
+use mathlib.Core.List.{List}
+use Prim.Native.Nat.{ℕ}
+use denote.Ref.{RefT}
+use denote.Triple.Both.{Both}
+use Rattle.rules.specs.Net.{Net}
+use Rattle.rules.specs.Columns.{Table, table, netIn}
+use Rattle.rules.specs.Lent.{lent}
+use Rattle.rules.specs.declared.Profile.{Profile}
+use Rattle.costs.specs.Costs.{costsOf}
+
+abbrev pub tableAt : ℕ → ℕ → List ℕ → List ℕ → List ℕ → List ℕ → Table
+tableAt nodes root starts ends narrow wide = table nodes root starts ends (costsOf narrow wide)
+
+-- the same of parameters, as they are when a call begins
+abbrev pub lentTableAt : {W X Y Z : Type 0} → ℕ → ℕ → Both (RefT (List ℕ)) W → Both (RefT (List ℕ)) X → Both (RefT (List ℕ)) Y → Both (RefT (List ℕ)) Z → Table
+lentTableAt nodes root starts ends narrow wide = tableAt nodes root (lent starts) (lent ends) (lent narrow) (lent wide)
+
+abbrev pub lentNet : {W X Y Z : Type 0} → Profile → ℕ → ℕ → Both (RefT (List ℕ)) W → Both (RefT (List ℕ)) X → Both (RefT (List ℕ)) Y → Both (RefT (List ℕ)) Z → Net
+lentNet profile nodes root starts ends narrow wide = netIn profile (lentTableAt nodes root starts ends narrow wide)
