@@ -9,6 +9,7 @@ ghost use Rattle.rules.specs.Lent.{lent, lentTable, lentTree};
 ghost use Rattle.rules.specs.Refusals.{judgeUpdate, judgeAsked};
 ghost use Rattle.batch.specs.Rows.{rowsOfColumns};
 use rules::Answer;
+use rules::UNREACHED;
 
 // Refusals 1 to 9 and 12, in their order. The arrays are whole by their type.
 pub fn judge_update<'a>(
@@ -45,7 +46,7 @@ fn is_unreached(dist: &[u32], node: usize) -> bool
     requires { ⌜ node < length (now dist) ⌝ }
     ensures { λ r. ⌜ r ≡ eqb (getD (lent dist) node 0) unreached ⌝ }
 {
-    dist[node] == 16_777_215
+    dist[node] == UNREACHED
 }
 
 // Refusals 1 to 6, 10 and 11, in their order.

@@ -16,7 +16,7 @@ use Rattle.rules.specs.Tests.{pick, all, firstBelow, usable, reached, tight, of
 use Rattle.rules.specs.Columns.{Table, Proper, Tree, Whole, netOf, rowsOf, mostNodes, after, applied}
 use Rattle.rules.specs.Refusals.{Verdict, accepted, refused, _then_, when, judgeLinks, judgeTree, judgeBatch, judgeUpdate, judgeAsked, judgeRows, wrongEndsAt, wrongOrderAt, linkAt, namesNoLink, namesAgain, firstBadRow}
 use Rattle.rules.specs.Jobs.{written, differs, changedBelow, Built, built, Updated, updated, not-updated, Pathed, pathed}
-use Rattle.pier.specs.Pier.{Line, fresh, update, refuse, path, Holds, EachHolds, pierLines, pier, lone}
+use Rattle.pier.specs.Pier.{Line, fresh, update, refuse, path, LineHolds, LinesHold, pierLines, pier, lone}
 use Rattle.rules.specs.declared.Change.{Change}
 use Rattle.rules.proofs.Logic.{neqb→ne, and-l, and-r, or-cases, all-at, T-true, T-false, true-T, first-of}
 use Rattle.rules.proofs.Check.{usable-of, tight-of, tight-is, hung-is, keeps-rules}
@@ -188,7 +188,7 @@ batch-table : (t : Table) (old : Tree) (batch : List Change) → judgeBatch t ol
 unfolding judgeBatch
 batch-table t old batch e = tree-links t old (then-first (judgeTree t old) _ e)
 
-pub line-holds : (l : Line) → T (passes l) → Holds l
+pub line-holds : (l : Line) → T (passes l) → LineHolds l
 unfolding passes
 line-holds (fresh t tree) q =
     let e = accepted-of (judgeLinks t) (search (and-l, and-r)) in
@@ -213,8 +213,8 @@ unfolding passes
 each [] = true
 each (l ∷ ls) = passes l && each ls
 
-each-holds : (ls : List Line) → T (each ls) → EachHolds ls
-unfolding each EachHolds
+each-holds : (ls : List Line) → T (each ls) → LinesHold ls
+unfolding each LinesHold
 each-holds [] q = tt
 each-holds (l ∷ ls) q = (line-holds l (and-l (passes l) (each ls) q), each-holds ls (and-r (passes l) (each ls) q))
 
@@ -223,5 +223,5 @@ unfolding each pierLines
 pier-passes = refl
 
 -- P1 to P12
-pub pier-holds : EachHolds pierLines
+pub pier-holds : LinesHold pierLines
 pier-holds = each-holds pierLines (true-T (each pierLines) pier-passes)

@@ -9,7 +9,7 @@ use lib.ListN.{length, getD}
 use Rattle.rules.specs.Columns.{Table, Tree, rowsOf, after, applied}
 use Rattle.rules.specs.Refusals.{Verdict, accepted, refused}
 use Rattle.rules.specs.Jobs.{written, Built, Updated}
-use Rattle.pier.specs.Pier.{EachHolds, pierLines, pier, lone, rows, padded, batch2, batch4, tree1, tree2, tree4, tree12}
+use Rattle.pier.specs.Pier.{LinesHold, pierLines, pier, lone, rows, padded, batch2, batch4, tree1, tree2, tree4, tree12}
 use Rattle.rules.specs.declared.Change.{Change}
 use Rattle.rules.proofs.Judged.{not-refused}
 use Rattle.rules.proofs.OneOutcome.{built-once, updated-once}
@@ -18,20 +18,20 @@ use Rattle.pier.proofs.Pier.{pier-holds}
 -- ---- the lines that are used
 
 p1 : Built pier accepted tree1
-unfolding EachHolds pierLines
+unfolding LinesHold pierLines
 p1 = pier-holds .0
 
 p2 : (list : List ℕ) → 4 ≤ length list → Updated pier tree1 batch2 list accepted tree2 (applied batch2 (pier .costs)) (written (1 ∷ 2 ∷ 3 ∷ []) list) 3
-unfolding EachHolds pierLines pier
+unfolding LinesHold pierLines pier
 p2 = pier-holds .1 .0
 
 p4 : (list : List ℕ) → 4 ≤ length list
     → Updated (after pier batch2) tree2 batch4 list accepted tree4 (applied batch4 (applied batch2 (pier .costs))) (written (2 ∷ 3 ∷ []) list) 2
-unfolding EachHolds pierLines pier
+unfolding LinesHold pierLines pier
 p4 = pier-holds .1 .1 .1 .0
 
 p12 : Built lone accepted tree12
-unfolding EachHolds pierLines
+unfolding LinesHold pierLines
 p12 = pier-holds .1 .1 .1 .1 .1 .1 .1 .1 .1 .1 .1 .1 .0
 
 differ-at : {r s : Tree} (v : ℕ) → rowsOf r .dist v ≢ rowsOf s .dist v → r ≢ s

@@ -50,16 +50,16 @@ pub data Line : Type 0 where
   path : (t : Table) (tree : Tree) (node : ℕ) (links : List ℕ) → Line
 
 -- whatever list is lent, if it is long enough
-abbrev pub Holds : Line → Type 0
-Holds (fresh t tree) = Built t accepted tree
-Holds (update t old batch new changed) = (list : List ℕ) → t .nodes ≤ length list
+abbrev pub LineHolds : Line → Type 0
+LineHolds (fresh t tree) = Built t accepted tree
+LineHolds (update t old batch new changed) = (list : List ℕ) → t .nodes ≤ length list
     → Updated t old batch list accepted new (applied batch (t .costs)) (written changed list) (length changed)
-Holds (refuse t old batch number value) = (list : List ℕ) → Updated t old batch list (refused number value) old (t .costs) list 0
-Holds (path t tree node links) = (list : List ℕ) → length links ≤ length list → Pathed t tree node list accepted (written links list) (length links)
+LineHolds (refuse t old batch number value) = (list : List ℕ) → Updated t old batch list (refused number value) old (t .costs) list 0
+LineHolds (path t tree node links) = (list : List ℕ) → length links ≤ length list → Pathed t tree node list accepted (written links list) (length links)
 
-unfoldable pub EachHolds : List Line → Type 0
-EachHolds [] = Unit {0}
-EachHolds (l ∷ ls) = Holds l × EachHolds ls
+unfoldable pub LinesHold : List Line → Type 0
+LinesHold [] = Unit {0}
+LinesHold (l ∷ ls) = LineHolds l × LinesHold ls
 
 -- ---- P1 to P12
 

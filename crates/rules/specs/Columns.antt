@@ -1,5 +1,5 @@
--- How the lent columns make a network, and the three arrays a tree. This file, and none below it, knows the sizes
--- and numbers of 01. Assumes nothing.
+-- How the lent columns make a network, and the three arrays a tree. Here 01's sizes and numbers get their names; the
+-- files before this one know none of them. Assumes nothing.
 use mathlib.Core.Path.{_≡_}
 use mathlib.Core.Logic.{_≢_}
 use mathlib.Core.Bool.{true}

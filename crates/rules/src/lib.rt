@@ -3,6 +3,11 @@ ghost use mathlib.Core.Path.{_≡_};
 ghost use Rattle.rules.specs.Columns.{narrow};
 ghost use Rattle.rules.specs.Answers.{numberOf, valueOf};
 
+// The distance of an unreached node, and "no link" where a link number is expected.
+pub const UNREACHED: u32 = 16_777_215;
+
+pub const NO_LINK: u16 = 65_535;
+
 // Accepted, or one of the refusals of the scope's table, with the value that it carries.
 pub enum Answer {
     Accepted,
@@ -39,7 +44,7 @@ pub fn narrow() -> Profile
     Profile {
         most: 65_535,
         ceiling: 8_589_934_592,
-        mark: 16_777_215,
+        mark: UNREACHED,
     }
 }
 
