@@ -10,10 +10,11 @@ use native.Mathlib.Decide.{ℕ-discrete}
 use Rattle.rules.specs.Net.{Net, Walk, at-root, Least}
 use Rattle.rules.specs.Tree.{Rows, total, Reached, Tight, Fits, Path, by-parent}
 use Rattle.rules.specs.Columns.{Table, Proper, Tree, netOf, rowsOf, unreached}
+use Rattle.rules.specs.Refusals.{accepted, judgeLinks}
 use Rattle.rules.specs.Demands.{Narrow, TellsRoutes}
 use Rattle.rules.proofs.Sound.{fits-shortest, shortest-fits, total-last, path-walk, walk-node, least-before}
 use Rattle.rules.proofs.Room.{dist-bound, walk-reached}
-use Rattle.rules.proofs.Judged.{legal, roomy}
+use Rattle.rules.proofs.Judged.{links-proper, legal, roomy}
 
 -- where distances are least sums, the last link of a tree path is tight
 module _ (N : Net) (r : Rows) (least : (v : ℕ) → Reached N r v → Least N v (r .dist v)) (no-path : (v : ℕ) → r .dist v ≡ N .mark → (d : ℕ) → Walk N v d → ⊥) where
@@ -68,3 +69,8 @@ module _ {t : Table} {tree : Tree} (a : Proper t) (c : Narrow (t .costs)) where
     where
       hangs : (v : ℕ) → Reached (netOf t) (rowsOf tree) v → (rowsOf tree .dist v ≡ 0) ⊎ Tight (netOf t) (rowsOf tree) (rowsOf tree .parent v) v
       hangs v h = let way = s .sums .routed v h in hangs-by (netOf t) (rowsOf tree) (s .sums .least) (s .sums .no-path) (way .path) h (way .sum)
+
+-- both at once, of a table that judging accepts
+pub fits-exactly : {t : Table} {tree : Tree} → judgeLinks t ≡ accepted → Narrow (t .costs)
+    → (Fits (netOf t) (rowsOf tree) → TellsRoutes t tree) × (TellsRoutes t tree → Fits (netOf t) (rowsOf tree))
+fits-exactly {t} e c = let a = links-proper t e in (fits-tells a c, tells-fits a c)
