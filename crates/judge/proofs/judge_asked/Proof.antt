@@ -6,7 +6,7 @@ use native.Mathlib.Omega.{arith}
 use lib.Dec.{eqb}
 use lib.ListN.{getD}
 use borrow.Author.Needs.{needs}
-use Rattle.rules.specs.Columns.{Table, Tree, Whole, table, arrays, rowsOf, unreached}
+use Rattle.rules.specs.Columns.{Table, Tree, Whole, table, arrays, rowsOf, mostNodes, unreached}
 use Rattle.rules.specs.Refusals.{accepted, judgeTree}
 use Rattle.rules.proofs.OneOutcome.{number-accepts, number-refuses, tree-links}
 use Rattle.rules.proofs.Logic.{getD-any}
@@ -29,7 +29,7 @@ tree-fits c =
     let tree = c .before .before .judge-lent in
     sym (tree .ensures) ∙ number-accepts (tree .result) (c .before .number .ensures) (c .if1 .left)
 
-in-tree : (c : tie.Else2) → c .before .before .before .before .before .before .before .before .before .before .args .node < 256
+in-tree : (c : tie.Else2) → c .before .before .before .before .before .before .before .before .before .before .args .node < mostNodes
 in-tree c = omega (arith, tree-links (table-of (c .before .before .before .before .before .before .before .before .before .before)) (tree-of (c .before .before .before .before .before .before .before .before .before .before)) (tree-fits (c .before)) .few-nodes, c .if2 .left)
 
 judge-lent-requires : tie.Need-judge-lent-requires
