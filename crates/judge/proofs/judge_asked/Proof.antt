@@ -14,23 +14,33 @@ use Rattle.judge.proofs.Laws.{tree-refuses-asked, node-refuses, unreach
 use Rattle.judge.proofs.judge_asked.Statement.{statement}
 use Rattle.judge.proofs.judge_asked.Tie as tie
 
-abbrev table-of : tie.Start → Table
-table-of c = table (c .args .nodes) (c .args .root) (c .args .starts .now) (c .args .ends .now) (c .args .costs .now)
+-- the call's beginning, as it is reached from the place where the tree is lent
+abbrev entry : tie.After-judge-lent-arg3 → tie.Start
+entry c = c .before .before .before .before .before .before
 
-abbrev tree-of : tie.Start → Tree
-tree-of c = arrays (c .args .dist .now) (c .args .parent .now) (c .args .first .now)
+abbrev table-of : tie.After-judge-lent-arg3 → Table
+table-of c = table (entry c .args .nodes) (entry c .args .root) (entry c .args .starts .now) (entry c .args .ends .now) (entry c .args .costs .now)
+
+abbrev tree-of : tie.After-judge-lent-arg3 → Tree
+tree-of c = arrays (entry c .args .dist .now) (entry c .args .parent .now) (entry c .args .first .now)
 
 -- the arrays have 256 entries by their type
-whole : (c : tie.After-judge-lent-arg3) → Whole (tree-of (c .before .before .before .before .before .before))
+whole : (c : tie.After-judge-lent-arg3) → Whole (tree-of c)
 whole c = record { dist = c .before .before .judge-lent-arg .given .0; parent = c .before .judge-lent-arg2 .given .0; first = c .judge-lent-arg3 .given .0 }
 
-tree-fits : (c : tie.Else1) → judgeTree (table-of (c .before .before .before .before .before .before .before .before .before)) (tree-of (c .before .before .before .before .before .before .before .before .before)) ≡ accepted
+-- past the first test the tree fits, past the second the node is one
+abbrev lent-1 : tie.Else1 → tie.After-judge-lent-arg3
+lent-1 c = c .before .before .before
+
+tree-fits : (c : tie.Else1) → judgeTree (table-of (lent-1 c)) (tree-of (lent-1 c)) ≡ accepted
 tree-fits c =
     let tree = c .before .before .judge-lent in
     sym (tree .ensures) ∙ number-accepts (tree .result) (c .before .number .ensures) (c .if1 .left)
 
-in-tree : (c : tie.Else2) → c .before .before .before .before .before .before .before .before .before .before .args .node < mostNodes
-in-tree c = omega (arith, tree-links (table-of (c .before .before .before .before .before .before .before .before .before .before)) (tree-of (c .before .before .before .before .before .before .before .before .before .before)) (tree-fits (c .before)) .few-nodes, c .if2 .left)
+in-tree : (c : tie.Else2) → entry (lent-1 (c .before)) .args .node < mostNodes
+in-tree c =
+    let lent = lent-1 (c .before) in
+    omega (arith, tree-links (table-of lent) (tree-of lent) (tree-fits (c .before)) .few-nodes, c .if2 .left)
 
 judge-lent-requires : tie.Need-judge-lent-requires
 judge-lent-requires c κs = whole c
@@ -40,34 +50,39 @@ number-requires c κs = search needs
 
 returns : tie.Need-returns
 returns c =
-    let entry = c .before .before .before .before .before .before .before .before .before in
+    let lent = c .before .before .before in
     let tree = c .before .before .judge-lent in
-    (tree-refuses-asked (table-of entry) (tree-of entry) _ (tree .ensures) (number-refuses (tree .result) (c .before .number .ensures) (c .if1 .taken)), whole (c .before .before .before))
+    (tree-refuses-asked (table-of lent) (tree-of lent) _ (tree .ensures) (number-refuses (tree .result) (c .before .number .ensures) (c .if1 .taken)), whole lent)
 
 returns-2 : tie.Need-returns-2
 returns-2 c =
-    let entry = c .before .before .before .before .before .before .before .before .before .before in
-    (node-refuses (table-of entry) (tree-of entry) _ (tree-fits (c .before)) (c .if2 .taken), whole (c .before .before .before .before))
+    let lent = lent-1 (c .before) in
+    (node-refuses (table-of lent) (tree-of lent) _ (tree-fits (c .before)) (c .if2 .taken), whole lent)
 
 is-unreached-requires : tie.Need-is-unreached-requires
 is-unreached-requires c κs = omega (arith, in-tree (c .before), c .is-unreached-arg .given .0)
 
 -- the entry that the code reads is the row's distance
-read : (c : tie.After-is-unreached) → eqb (rowsOf (tree-of (c .before .before .before .before .before .before .before .before .before .before .before .before)) .dist (c .before .before .before .before .before .before .before .before .before .before .before .before .args .node)) unreached ≡ c .is-unreached .result
+abbrev lent-3 : tie.After-is-unreached → tie.After-judge-lent-arg3
+lent-3 c = lent-1 (c .before .before .before)
+
+read : (c : tie.After-is-unreached) → eqb (rowsOf (tree-of (lent-3 c)) .dist (entry (lent-3 c) .args .node)) unreached ≡ c .is-unreached .result
 read c =
-    let entry = c .before .before .before .before .before .before .before .before .before .before .before .before in
-    ap (λ d. eqb d unreached) (getD-any (entry .args .dist .now) (entry .args .node) unreached 0 (omega (arith, in-tree (c .before .before), c .before .is-unreached-arg .given .0)))
+    let args = entry (lent-3 c) .args in
+    ap (λ d. eqb d unreached) (getD-any (args .dist .now) (args .node) unreached 0 (omega (arith, in-tree (c .before .before), c .before .is-unreached-arg .given .0)))
     ∙ sym (c .is-unreached .ensures)
 
 returns-3 : tie.Need-returns-3
 returns-3 c =
-    let entry = c .before .before .before .before .before .before .before .before .before .before .before .before .before in
-    (unreached-decides (table-of entry) (tree-of entry) _ (tree-fits (c .before .before .before .before)) (c .before .before .before .if2 .left) _ (read (c .before) ∙ c .if3 .taken), whole (c .before .before .before .before .before .before .before))
+    let lent = lent-3 (c .before) in
+    let node = c .before .before .before in
+    (unreached-decides (table-of lent) (tree-of lent) _ (tree-fits (node .before)) (node .if2 .left) _ (read (c .before) ∙ c .if3 .taken), whole lent)
 
 returns-4 : tie.Need-returns-4
 returns-4 c =
-    let entry = c .before .before .before .before .before .before .before .before .before .before .before .before .before in
-    (unreached-decides (table-of entry) (tree-of entry) _ (tree-fits (c .before .before .before .before)) (c .before .before .before .if2 .left) _ (read (c .before) ∙ c .if3 .left), whole (c .before .before .before .before .before .before .before))
+    let lent = lent-3 (c .before) in
+    let node = c .before .before .before in
+    (unreached-decides (table-of lent) (tree-of lent) _ (tree-fits (node .before)) (node .if2 .left) _ (read (c .before) ∙ c .if3 .left), whole lent)
 
 pub judge-asked-spec : {M : Type 1} → statement M
 judge-asked-spec =
