@@ -1,19 +1,18 @@
 -- The list of changed nodes names exactly those whose row differs, in rising order. Assumes nothing.
-use mathlib.Core.Path.{_≡_, refl, sym, ap, _∙_}
-use mathlib.Core.Bool.{Bool, true, false, _&&_, not}
+use mathlib.Core.Path.{_≡_, refl, sym, _∙_}
+use mathlib.Core.Bool.{Bool, true, false}
 use mathlib.Core.List.{List, [], _∷_, _++_, append-nil}
 use Prim.Native.Nat.{ℕ, zero, suc, _+_, _≤_, _<_}
 use native.Mathlib.Omega.{arith}
 use native.Mathlib.Nat.{not-suc-le-zero}
 use native.Mathlib.Decide.{decLt, ℕ-discrete}
-use lib.Dec.{eqb}
 use lib.ListN.{length, getD, length-append, List·getD-append}
 use lib.Seq.{getD-append-seam}
 use borrow.Author.Tests.{eq-eqb}
 use Rattle.rules.specs.Net.{Net, Legal}
 use Rattle.rules.specs.Tree.{Rows, Bare, Row, root, hung, bare, Fits}
 use Rattle.rules.specs.Tests.{pick}
-use Rattle.rules.specs.Columns.{Table, Tree, Whole, netOf, rowsOf}
+use Rattle.rules.specs.Columns.{Table, Tree, Whole, rowsOf}
 use Rattle.rules.specs.Refusals.{accepted}
 use Rattle.rules.specs.Jobs.{differs, changedBelow, Updated}
 use Rattle.rules.specs.Demands.{Names}

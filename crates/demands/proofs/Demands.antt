@@ -1,5 +1,5 @@
 -- Demands 2 and 3, of every tree that the rules admit. Assumes nothing.
-use mathlib.Core.Path.{_≡_, refl}
+use mathlib.Core.Path.{refl}
 use mathlib.Core.List.{List}
 use Prim.Native.Nat.{ℕ}
 use Rattle.rules.specs.Columns.{Table, Tree, Whole, netOf, rowsOf, after}

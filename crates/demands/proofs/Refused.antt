@@ -5,7 +5,7 @@ use mathlib.Core.Path.{_≡_, refl, sym}
 use mathlib.Core.List.{List}
 use Prim.Native.Nat.{ℕ}
 use Rattle.rules.specs.Columns.{Table, Tree, emptyTree}
-use Rattle.rules.specs.Refusals.{Verdict, accepted, refused}
+use Rattle.rules.specs.Refusals.{Verdict, refused}
 use Rattle.rules.specs.Applies.{OfTable, OfUpdate, OfPath, Gives}
 use Rattle.rules.specs.Jobs.{Built, built, not-built, Updated, updated, not-updated, Pathed, pathed, too-short, not-pathed}
 use Rattle.rules.specs.Demands.{Untouched}

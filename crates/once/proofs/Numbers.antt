@@ -8,7 +8,7 @@ use Rattle.rules.specs.Refusals.{Verdict}
 use Rattle.rules.specs.Answers.{numberIn, valueIn}
 use Rattle.rules.specs.Jobs.{Built, Updated, Pathed}
 use Rattle.rules.specs.declared.Change.{Change}
-use Rattle.rules.proofs.OneOutcome.{SameBuilt, built-once, SameUpdated, updated-once, SamePathed, pathed-once}
+use Rattle.rules.proofs.OneOutcome.{built-once, updated-once, pathed-once}
 use Rattle.stream.specs.declared.Read.{Read}
 use Rattle.plain.specs.Verdicts.{InNumbers}
 use Rattle.plain.specs.Readings.{HandedBack}

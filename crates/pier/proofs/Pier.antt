@@ -1,24 +1,24 @@
 -- P1 to P12, shown of the rules: a test that computes, what it says, and the table that passes it. Assumes nothing.
-use mathlib.Core.Path.{_≡_, refl, sym, ap, _∙_}
+use mathlib.Core.Path.{_≡_, refl}
 use mathlib.Core.Logic.{_⊎_, inl, inr, _≢_}
 use mathlib.Core.Bool.{Bool, true, false, _&&_, _||_, not}
 use mathlib.Core.List.{List, [], _∷_, _++_}
-use Prim.Native.Nat.{ℕ, zero, suc, _≤_, _<_}
+use Prim.Native.Nat.{ℕ, _≤_, _<_}
 use native.Mathlib.Omega.{arith}
 use native.Mathlib.Decide.{decLt}
-use lib.Dec.{T, eqb, ltb, leb, eqb→eq, T-not, not-T}
-use lib.ListN.{length, getD}
-use borrow.Author.Tests.{le-ltb, eqb-true}
+use lib.Dec.{T, eqb, eqb→eq, T-not}
+use lib.ListN.{length}
+use borrow.Author.Tests.{le-ltb}
 use Rattle.rules.specs.Net.{Net, Usable}
 use Rattle.rules.specs.Tree.{Rows, Tight, Hung, Row, Fits, Path, at-root, by-parent}
 use Rattle.rules.specs.Keep.{Smallest, Choice, keeps, takes, Fresh, Next}
-use Rattle.rules.specs.Tests.{pick, all, firstBelow, usable, reached, tight, offers, rootRow, bareRow, hungRow, breaks}
+use Rattle.rules.specs.Tests.{all, usable, tight, hungRow, breaks}
 use Rattle.rules.specs.Columns.{Table, Proper, Tree, Whole, netOf, rowsOf, mostNodes, after, applied}
-use Rattle.rules.specs.Refusals.{Verdict, accepted, refused, _then_, when, judgeLinks, judgeTree, judgeBatch, judgeUpdate, judgeAsked, judgeRows, wrongEndsAt, wrongOrderAt, linkAt, namesNoLink, namesAgain, firstBadRow}
-use Rattle.rules.specs.Jobs.{written, differs, changedBelow, Built, built, Updated, updated, not-updated, Pathed, pathed}
-use Rattle.pier.specs.Pier.{Line, fresh, update, refuse, path, LineHolds, LinesHold, pierLines, pier, lone}
+use Rattle.rules.specs.Refusals.{Verdict, accepted, refused, judgeLinks, judgeTree, judgeBatch, judgeUpdate, judgeAsked}
+use Rattle.rules.specs.Jobs.{changedBelow, built, updated, not-updated, pathed}
+use Rattle.pier.specs.Pier.{Line, fresh, update, refuse, path, LineHolds, LinesHold, pierLines}
 use Rattle.rules.specs.declared.Change.{Change}
-use Rattle.rules.proofs.Logic.{neqb→ne, and-l, and-r, or-cases, all-at, T-true, T-false, true-T, first-of}
+use Rattle.rules.proofs.Logic.{neqb→ne, and-l, and-r, or-cases, all-at, T-false, true-T}
 use Rattle.rules.proofs.Check.{usable-of, tight-of, tight-is, hung-is, keeps-rules}
 use Rattle.rules.proofs.Judged.{links-proper, beyond, then-first}
 use Rattle.rules.proofs.OneOutcome.{after-proper, tree-links}

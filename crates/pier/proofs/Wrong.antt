@@ -1,16 +1,15 @@
 -- The wrong programs that 01 names: none of them keeps the rules. Each is refuted on the pier network.
 -- Assumes nothing.
-use mathlib.Core.Path.{_≡_, refl, sym, ap, _∙_}
+use mathlib.Core.Path.{_≡_, sym, ap, _∙_}
 use mathlib.Core.Logic.{_≢_}
 use mathlib.Core.List.{List, [], _∷_}
 use Prim.Native.Nat.{ℕ, _≤_}
 use native.Mathlib.Omega.{arith}
-use lib.ListN.{length, getD}
-use Rattle.rules.specs.Columns.{Table, Tree, rowsOf, after, applied}
+use lib.ListN.{length}
+use Rattle.rules.specs.Columns.{Tree, rowsOf, after, applied}
 use Rattle.rules.specs.Refusals.{Verdict, accepted, refused}
 use Rattle.rules.specs.Jobs.{written, Built, Updated}
 use Rattle.pier.specs.Pier.{LinesHold, pierLines, pier, lone, rows, padded, batch2, batch4, tree1, tree2, tree4, tree12}
-use Rattle.rules.specs.declared.Change.{Change}
 use Rattle.rules.proofs.Judged.{not-refused}
 use Rattle.rules.proofs.OneOutcome.{built-once, updated-once}
 use Rattle.pier.proofs.Pier.{pier-holds}

@@ -1,11 +1,10 @@
 -- The pier network and what 01 says of it, P1 to P12, and two paths more. proofs/Pier.antt shows each line of the
 -- rules themselves. Assumes nothing.
-use mathlib.Core.Path.{_≡_}
 use mathlib.Core.List.{List, [], _∷_, _++_}
 use Prim.Native.Nat.{ℕ, _-_, _≤_}
 use lib.ListN.{length, replicate}
 use Rattle.rules.specs.Columns.{Table, Tree, arrays, mostNodes, unreached, noLink, after, applied}
-use Rattle.rules.specs.Refusals.{Verdict, accepted, refused}
+use Rattle.rules.specs.Refusals.{accepted, refused}
 use Rattle.rules.specs.Jobs.{written, Built, Updated, Pathed}
 use Rattle.rules.specs.declared.Change.{Change}
 

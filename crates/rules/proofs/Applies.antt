@@ -6,18 +6,18 @@ use mathlib.Core.Bool.{Bool, true, false, _||_, not}
 use mathlib.Core.List.{List}
 use Prim.Native.Nat.{ℕ, zero, suc, _-_, _≤_, _<_}
 use native.Mathlib.Omega.{arith}
-use native.Mathlib.Decide.{decLt, ℕ-discrete}
+use native.Mathlib.Decide.{decLt}
 use lib.Dec.{T, eqb, ltb, leb}
 use lib.ListN.{length, getD}
-use borrow.Author.Tests.{lt-ltb, le-ltb, le-leb, eq-eqb, ne-eqb, ltb-true, leb-true, eqb-true, eqb-false, not-false}
+use borrow.Author.Tests.{lt-ltb, le-ltb, le-leb, eq-eqb, ltb-true, leb-true, eqb-true}
 use Rattle.rules.specs.Tree.{Row, Path}
-use Rattle.rules.specs.Tests.{pick, firstBelow, breaks, reached}
+use Rattle.rules.specs.Tests.{firstBelow, breaks, reached}
 use Rattle.rules.specs.Columns.{Table, Tree, netOf, rowsOf, mostNodes, mostLinks, mostRows, unreached}
-use Rattle.rules.specs.Refusals.{Verdict, accepted, refused, _then_, when, whenOne, wrongNodeCount, wrongRoot, wrongColumns, wrongEnds, wrongEndsAt, wrongOrderAt, judgeEach, judgeLinks, judgeTree, linkAt, namesNoLink, namesAgain, firstBadRow, judgeRows, judgeBatch, judgeUpdate, judgeAsked}
+use Rattle.rules.specs.Refusals.{Verdict, accepted, _then_, when, whenOne, wrongNodeCount, wrongRoot, wrongColumns, wrongEndsAt, wrongOrderAt, judgeLinks, judgeTree, linkAt, namesNoLink, namesAgain, firstBadRow, judgeRows, judgeBatch, judgeUpdate, judgeAsked}
 use Rattle.rules.specs.Applies.{FirstOf, BadEnds, start-no-node, end-no-node, start-is-end, Falls, OfTable, no-nodes, many-nodes, root-no-node, ends-unequal, costs-unequal, many-links, wrong-ends, wrong-order, OfTree, of-table, unfit, BadRow, no-link, again, OfUpdate, many-rows, bad-row, OfPath, no-node, no-route, Gives, none, smallest}
 use Rattle.rules.specs.Jobs.{Pathed, pathed, too-short, not-pathed}
 use Rattle.rules.specs.declared.Change.{Change}
-use Rattle.rules.proofs.Logic.{First, first-of, or-cases, or-r, T-true, true-T, true-false}
+use Rattle.rules.proofs.Logic.{first-of, or-cases, or-r, T-true, true-T, true-false}
 use Rattle.rules.proofs.Check.{keeps-rules, breaks-rule}
 use Rattle.rules.proofs.Sound.{path-unique}
 use Rattle.rules.proofs.Judged.{not-refused}
@@ -96,81 +96,90 @@ gives-first n test number {So} d = at (decLt (firstBelow test n) n)
     at (yes l) = let f = found n test d l in rw (lt-ltb (firstBelow test n) n l) (smallest (first f) bound (λ x o. carried f o))
     at (no l) = rw (le-ltb (firstBelow test n) n (omega arith)) (none (empty (omega arith)))
 
--- the first verdict's numbers are at most k, and the second's above it
-abbrev UpTo : ℕ → (ℕ → ℕ → Type 0) → Type 0
-UpTo k A = (m x : ℕ) → A m x → m ≤ k
+-- ---- numbers asked in rising order
 
-abbrev Above : ℕ → (ℕ → ℕ → Type 0) → Type 0
-Above k A = (m x : ℕ) → A m x → k < m
+-- a verdict and the numbers that it can have
+record Says (from to : ℕ) (A : ℕ → ℕ → Type 0) (v : Verdict) : Type 0 where
+  gives : Gives A v
+  least : (m x : ℕ) → A m x → from ≤ m
+  most : (m x : ℕ) → A m x → m ≤ to
 
--- a refusal stands, whatever is asked behind it
-gives-early : (k : ℕ) {A B : ℕ → ℕ → Type 0} {v : Verdict} → UpTo k A → Above k B → Gives A v → (v ≡ accepted → ⊥) → Gives (Either A B) v
-gives-early k low high (none a) n = absurd (n refl)
-gives-early k {A} {B} low high (smallest {number} {value} a least one) n = smallest (here a) bound carries
+says-when : (number : ℕ) (test : Bool) {So : Type 0} → Decides test So → Says number number (Only number So) (when test number)
+says-when number test {So} d = record { gives = gives-when test number d; least = low; most = high }
   where
-    bound : (m x : ℕ) → Either A B m x → number ≤ m
-    bound m x (here s) = least m x s
-    bound m x (there s) = omega (arith, low number value a, high m x s)
+    low : (m x : ℕ) → Only number So m x → number ≤ m
+    low m x (only s) = omega arith
 
-    carries : (x : ℕ) → Either A B number x → x ≡ value
-    carries x (here s) = one x s
-    carries x (there s) = absurd (omega (arith, low number value a, high number x s))
+    high : (m x : ℕ) → Only number So m x → m ≤ number
+    high m x (only s) = omega arith
 
-gives-then : (k : ℕ) {A B : ℕ → ℕ → Type 0} {v w : Verdict} → UpTo k A → Above k B → Gives A v → Gives B w → Gives (Either A B) (v then w)
-gives-then k {A} {B} low high (none a) (none b) = none at
+says-first : (number n : ℕ) (test : ℕ → Bool) {So : ℕ → Type 0} → ((i : ℕ) → Decides (test i) (So i))
+    → Says number number (OnlyFirst number n So) (whenOne n test number)
+says-first number n test {So} d = record { gives = gives-first n test number d; least = low; most = high }
   where
-    at : (m x : ℕ) → Either A B m x → ⊥
-    at m x (here s) = a m x s
-    at m x (there s) = b m x s
-gives-then k {A} {B} low high (none a) (smallest {number} {value} b least one) = smallest (there b) bound carries
-  where
-    bound : (m x : ℕ) → Either A B m x → number ≤ m
-    bound m x (here s) = absurd (a m x s)
-    bound m x (there s) = least m x s
+    low : (m x : ℕ) → OnlyFirst number n So m x → number ≤ m
+    low m x (first s) = omega arith
 
-    carries : (x : ℕ) → Either A B number x → x ≡ value
-    carries x (here s) = absurd (a number x s)
-    carries x (there s) = one x s
-gives-then k low high (smallest a least one) g = gives-early k low high (smallest a least one) not-refused
+    high : (m x : ℕ) → OnlyFirst number n So m x → m ≤ number
+    high m x (first s) = omega arith
+
+-- the second's numbers are above the first's
+module _ {mid next : ℕ} (apart : mid < next) {A B : ℕ → ℕ → Type 0} (upto : (m x : ℕ) → A m x → m ≤ mid) (above : (m x : ℕ) → B m x → next ≤ m) where
+  -- a refusal stands, whatever is asked behind it
+  gives-early : {v : Verdict} → Gives A v → (v ≡ accepted → ⊥) → Gives (Either A B) v
+  gives-early (none a) n = absurd (n refl)
+  gives-early (smallest {number} {value} a least one) n = smallest (here a) bound carries
+    where
+      bound : (m x : ℕ) → Either A B m x → number ≤ m
+      bound m x (here s) = least m x s
+      bound m x (there s) = omega (arith, upto number value a, above m x s)
+
+      carries : (x : ℕ) → Either A B number x → x ≡ value
+      carries x (here s) = one x s
+      carries x (there s) = absurd (omega (arith, upto number value a, above number x s))
+
+  gives-then : {v w : Verdict} → Gives A v → Gives B w → Gives (Either A B) (v then w)
+  gives-then (none a) (none b) = none at
+    where
+      at : (m x : ℕ) → Either A B m x → ⊥
+      at m x (here s) = a m x s
+      at m x (there s) = b m x s
+  gives-then (none a) (smallest {number} {value} b least one) = smallest (there b) bound carries
+    where
+      bound : (m x : ℕ) → Either A B m x → number ≤ m
+      bound m x (here s) = absurd (a m x s)
+      bound m x (there s) = least m x s
+
+      carries : (x : ℕ) → Either A B number x → x ≡ value
+      carries x (here s) = absurd (a number x s)
+      carries x (there s) = one x s
+  gives-then (smallest a least one) g = gives-early (smallest a least one) not-refused
+
+record Rising (from mid next to : ℕ) : Type 0 where
+  first-part : from ≤ mid
+  apart : mid < next
+  second-part : next ≤ to
+
+says-then : {from mid next to : ℕ} → Rising from mid next to → {A B : ℕ → ℕ → Type 0} {v w : Verdict} → Says from mid A v → Says next to B w
+    → Says from to (Either A B) (v then w)
+says-then {from} {to = to} r {A} {B} p q = record { gives = gives-then (r .apart) (p .most) (q .least) (p .gives) (q .gives); least = low; most = high }
+  where
+    low : (m x : ℕ) → Either A B m x → from ≤ m
+    low m x (here s) = p .least m x s
+    low m x (there s) = omega (arith, q .least m x s)
+
+    high : (m x : ℕ) → Either A B m x → m ≤ to
+    high m x (here s) = omega (arith, p .most m x s)
+    high m x (there s) = q .most m x s
 
 -- the same numbers and values, said in another way
 gives-same : {A B : ℕ → ℕ → Type 0} {v : Verdict} → ((m x : ℕ) → A m x → B m x) → ((m x : ℕ) → B m x → A m x) → Gives A v → Gives B v
 gives-same to from (none a) = none (λ m x b. a m x (from m x b))
 gives-same to from (smallest a least one) = smallest (to _ _ a) (λ m x b. least m x (from m x b)) (λ x b. one x (from _ x b))
 
--- a verdict whose numbers are all above k, and one number more before it
-record GivesAbove (k : ℕ) (A : ℕ → ℕ → Type 0) (v : Verdict) : Type 0 where
-  gives : Gives A v
-  above : Above k A
-
-last : (k : ℕ) {So : ℕ → Type 0} (n : ℕ) (test : ℕ → Bool) → ((i : ℕ) → Decides (test i) (So i))
-    → GivesAbove k (OnlyFirst (suc k) n So) (whenOne n test (suc k))
-last k {So} n test d = record { gives = gives-first n test (suc k) d; above = own }
-  where
-    own : Above k (OnlyFirst (suc k) n So)
-    own m x (first s) = omega arith
-
-module _ (k : ℕ) {B : ℕ → ℕ → Type 0} {w : Verdict} (rest : GivesAbove (suc k) B w) where
-  next-when : {So : Type 0} (test : Bool) → Decides test So → GivesAbove k (Either (Only (suc k) So) B) (when test (suc k) then w)
-  next-when {So} test d = record { gives = gives-then (suc k) own (rest .above) (gives-when test (suc k) d) (rest .gives); above = all }
-    where
-      own : UpTo (suc k) (Only (suc k) So)
-      own m x (only s) = omega arith
-
-      all : Above k (Either (Only (suc k) So) B)
-      all m x (here (only s)) = omega arith
-      all m x (there s) = omega (arith, rest .above m x s)
-
-  next-first : {So : ℕ → Type 0} (n : ℕ) (test : ℕ → Bool) → ((i : ℕ) → Decides (test i) (So i))
-      → GivesAbove k (Either (OnlyFirst (suc k) n So) B) (whenOne n test (suc k) then w)
-  next-first {So} n test d = record { gives = gives-then (suc k) own (rest .above) (gives-first n test (suc k) d) (rest .gives); above = all }
-    where
-      own : UpTo (suc k) (OnlyFirst (suc k) n So)
-      own m x (first s) = omega arith
-
-      all : Above k (Either (OnlyFirst (suc k) n So) B)
-      all m x (here (first s)) = omega arith
-      all m x (there s) = omega (arith, rest .above m x s)
+says-same : {i j : ℕ} {A B : ℕ → ℕ → Type 0} {v : Verdict} → ((m x : ℕ) → A m x → B m x) → ((m x : ℕ) → B m x → A m x) → Says i j A v → Says i j B v
+says-same to from p =
+    record { gives = gives-same to from (p .gives); least = λ m x b. p .least m x (from m x b); most = λ m x b. p .most m x (from m x b) }
 
 -- ---- tests
 
@@ -202,17 +211,21 @@ decides-or a b {A} {B} d e = record { yes-so = λ q. at (or-cases a b (true-T (a
 
 wrong-ends-decides : (t : Table) (k : ℕ) → Decides (wrongEndsAt t k) (BadEnds t k)
 unfolding wrongEndsAt
-wrong-ends-decides t k = record { yes-so = λ e. at (by .yes-so e); so-yes = λ w. by .so-yes (back w) }
+wrong-ends-decides t k =
+    let start = getD (t .starts) k 0 in
+    let end = getD (t .ends) k 0 in
+    let by = decides-or _ _ (decides-or _ _ (decides-le (t .nodes) start) (decides-le (t .nodes) end)) (decides-eq start end) in
+    record { yes-so = λ e. at (by .yes-so e); so-yes = λ w. by .so-yes (back w) }
   where
-    by : Decides (wrongEndsAt t k) (((t .nodes ≤ getD (t .starts) k 0) ⊎ (t .nodes ≤ getD (t .ends) k 0)) ⊎ (getD (t .starts) k 0 ≡ getD (t .ends) k 0))
-    by = decides-or _ _ (decides-or _ _ (decides-le (t .nodes) (getD (t .starts) k 0)) (decides-le (t .nodes) (getD (t .ends) k 0))) (decides-eq (getD (t .starts) k 0) (getD (t .ends) k 0))
+    Ways : Type 0
+    Ways = ((t .nodes ≤ getD (t .starts) k 0) ⊎ (t .nodes ≤ getD (t .ends) k 0)) ⊎ (getD (t .starts) k 0 ≡ getD (t .ends) k 0)
 
-    at : ((t .nodes ≤ getD (t .starts) k 0) ⊎ (t .nodes ≤ getD (t .ends) k 0)) ⊎ (getD (t .starts) k 0 ≡ getD (t .ends) k 0) → BadEnds t k
+    at : Ways → BadEnds t k
     at (inl (inl l)) = start-no-node l
     at (inl (inr l)) = end-no-node l
     at (inr e) = start-is-end e
 
-    back : BadEnds t k → ((t .nodes ≤ getD (t .starts) k 0) ⊎ (t .nodes ≤ getD (t .ends) k 0)) ⊎ (getD (t .starts) k 0 ≡ getD (t .ends) k 0)
+    back : BadEnds t k → Ways
     back (start-no-node l) = inl (inl l)
     back (end-no-node l) = inl (inr l)
     back (start-is-end e) = inr e
@@ -256,28 +269,23 @@ module _ (t : Table) where
   from-table m x (wrong-ends f) = there (there (there (here (first f))))
   from-table m x (wrong-order f) = there (there (there (there (first f))))
 
-  pub table-gives : Gives (OfTable t) (judgeLinks t)
+  table-says : Says 1 5 (OfTable t) (judgeLinks t)
   unfolding judgeLinks
-  table-gives =
+  table-says =
       let n = length (t .starts) in
-      let five = last 4 n (wrongOrderAt t) (falls-decides t) in
-      let four = next-first 3 five n (wrongEndsAt t) (wrong-ends-decides t) in
-      let three = next-when 2 four (wrongColumns t) (decides-or _ _ (decides-or _ _ (decides-not _ (decides-eq n (length (t .ends)))) (decides-not _ (decides-eq n (length (t .costs))))) (decides-lt mostLinks n)) in
-      let two = next-when 1 three (wrongRoot t) (decides-le (t .nodes) (t .root)) in
-      let one = next-when 0 two (wrongNodeCount t) (decides-or _ _ (decides-eq (t .nodes) 0) (decides-lt mostNodes (t .nodes))) in
-      gives-same to-table from-table (one .gives)
+      let one = says-when 1 (wrongNodeCount t) (decides-or _ _ (decides-eq (t .nodes) 0) (decides-lt mostNodes (t .nodes))) in
+      let two = says-when 2 (wrongRoot t) (decides-le (t .nodes) (t .root)) in
+      let unequal = decides-or _ _ (decides-not _ (decides-eq n (length (t .ends)))) (decides-not _ (decides-eq n (length (t .costs)))) in
+      let three = says-when 3 (wrongColumns t) (decides-or _ _ unequal (decides-lt mostLinks n)) in
+      let four = says-first 4 n (wrongEndsAt t) (wrong-ends-decides t) in
+      let five = says-first 5 n (wrongOrderAt t) (falls-decides t) in
+      says-same to-table from-table
+      (says-then (omega arith) one (says-then (omega arith) two (says-then (omega arith) three (says-then (omega arith) four five))))
+
+  pub table-gives : Gives (OfTable t) (judgeLinks t)
+  table-gives = table-says .gives
 
 -- ---- a tree: 1 to 6
-
-table-upto : {t : Table} → UpTo 5 (OfTable t)
-table-upto m x (no-nodes e) = omega arith
-table-upto m x (many-nodes l) = omega arith
-table-upto m x (root-no-node l) = omega arith
-table-upto m x (ends-unequal n) = omega arith
-table-upto m x (costs-unequal n) = omega arith
-table-upto m x (many-links l) = omega arith
-table-upto m x (wrong-ends f) = omega arith
-table-upto m x (wrong-order f) = omega arith
 
 module _ (t : Table) (tree : Tree) where
   breaks-decides : (v : ℕ) → Decides (breaks (netOf t) (rowsOf tree) v) (Row (netOf t) (rowsOf tree) v → ⊥)
@@ -298,15 +306,14 @@ module _ (t : Table) (tree : Tree) where
   from-tree m x (of-table s) = here s
   from-tree m x (unfit f) = there (first f)
 
-  pub tree-gives : Gives (OfTree t tree) (judgeTree t tree)
+  tree-says : Says 1 6 (OfTree t tree) (judgeTree t tree)
   unfolding judgeTree
-  tree-gives =
-      let six = last 5 mostNodes (breaks (netOf t) (rowsOf tree)) breaks-decides in
-      gives-same to-tree from-tree (gives-then 5 table-upto (six .above) (table-gives t) (six .gives))
+  tree-says =
+      let six = says-first 6 mostNodes (breaks (netOf t) (rowsOf tree)) breaks-decides in
+      says-same to-tree from-tree (says-then (omega arith) (table-says t) six)
 
-tree-upto : {t : Table} {tree : Tree} → UpTo 6 (OfTree t tree)
-tree-upto m x (of-table s) = omega (arith, table-upto m x s)
-tree-upto m x (unfit f) = omega arith
+  pub tree-gives : Gives (OfTree t tree) (judgeTree t tree)
+  tree-gives = tree-says .gives
 
 -- ---- an update: 1 to 9 and 12
 
@@ -383,13 +390,16 @@ module _ (t : Table) (batch : List Change) where
           rw (lt-ltb (firstBadRow t batch) (length batch) l, e) (smallest (bad (again-decides (firstBadRow t batch) .yes-so (rw e at (bad-decides (firstBadRow t batch) .so-yes (f .is-so)))) f) (λ m x o. nine f e o) (λ x o. carried f o))
       at (no l) b e = rw (le-ltb (firstBadRow t batch) (length batch) (omega arith)) (none (empty (omega arith)))
 
-rows-above : {t : Table} {batch : List Change} → Above 7 (OfRows t batch)
-rows-above m x (bad (no-link s) f) = omega arith
-rows-above m x (bad (again i s q) f) = omega arith
+rows-says : (t : Table) (batch : List Change) → Says 8 9 (OfRows t batch) (judgeRows t batch)
+rows-says t batch = record { gives = rows-gives t batch; least = low; most = high }
+  where
+    low : (m x : ℕ) → OfRows t batch m x → 8 ≤ m
+    low m x (bad (no-link s) f) = omega arith
+    low m x (bad (again i s q) f) = omega arith
 
-rows-upto : {t : Table} {batch : List Change} → UpTo 9 (OfRows t batch)
-rows-upto m x (bad (no-link s) f) = omega arith
-rows-upto m x (bad (again i s q) f) = omega arith
+    high : (m x : ℕ) → OfRows t batch m x → m ≤ 9
+    high m x (bad (no-link s) f) = omega arith
+    high m x (bad (again i s q) f) = omega arith
 
 module _ (t : Table) (tree : Tree) (batch : List Change) (list : List ℕ) where
   abbrev Batches : ℕ → ℕ → Type 0
@@ -410,21 +420,13 @@ module _ (t : Table) (tree : Tree) (batch : List Change) (list : List ℕ) where
   from-update m x (bad-row b f) = here (there (there (bad b f)))
   from-update m x (OfUpdate.list-short l) = there (only l)
 
-  batch-upto : UpTo 9 Batches
-  batch-upto m x (here s) = omega (arith, tree-upto m x s)
-  batch-upto m x (there (here (only l))) = omega arith
-  batch-upto m x (there (there s)) = rows-upto m x s
-
-  twelve : Above 9 (Only 12 (length list < t .nodes))
-  twelve m x (only l) = omega arith
-
   pub update-gives : Gives (OfUpdate t tree batch list) (judgeUpdate t tree batch list)
   unfolding judgeUpdate judgeBatch
   update-gives =
-      let rows : GivesAbove 7 (OfRows t batch) (judgeRows t batch) = record { gives = rows-gives t batch; above = rows-above } in
-      let seven = next-when 6 rows (ltb mostRows (length batch)) (decides-lt mostRows (length batch)) in
-      gives-same to-update from-update
-      (gives-then 9 batch-upto twelve (gives-then 6 tree-upto (seven .above) (tree-gives t tree) (seven .gives)) (gives-when (ltb (length list) (t .nodes)) 12 (decides-lt (length list) (t .nodes))))
+      let seven = says-when 7 (ltb mostRows (length batch)) (decides-lt mostRows (length batch)) in
+      let twelve = says-when 12 (ltb (length list) (t .nodes)) (decides-lt (length list) (t .nodes)) in
+      let rows = says-then (omega arith) (tree-says t tree) (says-then (omega arith) seven (rows-says t batch)) in
+      gives-same to-update from-update (says-then (omega arith) rows twelve .gives)
 
 -- ---- a path: 1 to 6 and 10 to 12
 
@@ -440,21 +442,12 @@ module _ (t : Table) (tree : Tree) (node : ℕ) where
       at true d = d
       at false d = d
 
-  asked-upto : UpTo 11 Askeds
-  asked-upto m x (here s) = omega (arith, tree-upto m x s)
-  asked-upto m x (there (here (only l))) = omega arith
-  asked-upto m x (there (there (only e))) = omega arith
-
-  eleven-above : Above 10 (Only 11 (rowsOf tree .dist node ≡ unreached))
-  eleven-above m x (only e) = omega arith
-
-  asked-gives : Gives Askeds (judgeAsked t tree node)
+  asked-says : Says 1 11 Askeds (judgeAsked t tree node)
   unfolding judgeAsked
-  asked-gives =
-      let unreached = not (reached (netOf t) (rowsOf tree) node) in
-      let eleven : GivesAbove 10 _ (when unreached 11) = record { gives = gives-when unreached 11 unreached-decides; above = eleven-above } in
-      let ten = next-when 9 eleven (leb (t .nodes) node) (decides-le (t .nodes) node) in
-      gives-then 6 tree-upto (λ m x s. let l = ten .above m x s in omega arith) (tree-gives t tree) (ten .gives)
+  asked-says =
+      let ten = says-when 10 (leb (t .nodes) node) (decides-le (t .nodes) node) in
+      let eleven = says-when 11 (not (reached (netOf t) (rowsOf tree) node)) unreached-decides in
+      says-then (omega arith) (tree-says t tree) (says-then (omega arith) ten eleven)
 
 module _ (t : Table) (tree : Tree) (node : ℕ) (list : List ℕ) where
   -- the path has more links than the list has places
@@ -475,17 +468,17 @@ module _ (t : Table) (tree : Tree) (node : ℕ) (list : List ℕ) where
   from-path m x (no-route e) = here (there (there (only e)))
   from-path m x (OfPath.list-short {links} p l) = there (only (record { links = links; path = p; longer = l }))
 
-  longer-above : Above 11 (Only 12 Longer)
-  longer-above m x (only p) = omega arith
-
   -- 12 is judged where the path is known
   with-path : (short : Bool) → Decides short Longer → judgeAsked t tree node ≡ accepted → Gives (OfPath t tree node list) (when short 12)
-  with-path short d e = gives-same to-path from-path
-      (gives-then 11 (asked-upto t tree node) longer-above (rw e at (asked-gives t tree node)) (gives-when short 12 d))
+  with-path short d e = gives-same to-path from-path (says-then (omega arith) (rw e at (asked-says t tree node)) (says-when 12 short d) .gives)
 
   pub path-gives : {v : Verdict} {listed : List ℕ} {count : ℕ} → Pathed t tree node list v listed count → Gives (OfPath t tree node list) v
   path-gives (pathed e p l) =
       with-path false (record { yes-so = λ q. absurd (true-false (sym q)); so-yes = λ s. absurd (omega (arith, ap length (path-unique p refl (s .path)), s .longer)) }) e
   path-gives (too-short e p l) = with-path true (record { yes-so = λ q. record { links = _; path = p; longer = l }; so-yes = λ s. refl }) e
   path-gives (not-pathed e) =
-      gives-same to-path from-path (gives-early 11 (asked-upto t tree node) longer-above (rw e at (asked-gives t tree node)) not-refused)
+      let asked = asked-says t tree node in
+      gives-same to-path from-path (gives-early {mid = 11} {next = 12} (omega arith) (asked .most) twelve (rw e at (asked .gives)) not-refused)
+    where
+      twelve : (m x : ℕ) → Only 12 Longer m x → 12 ≤ m
+      twelve m x (only s) = omega arith

@@ -1,14 +1,13 @@
 -- Each test of specs/Tests.antt passes exactly where its rule holds. Assumes nothing.
-use mathlib.Core.Path.{_≡_, refl, sym, ap, _∙_}
+use mathlib.Core.Path.{_≡_, refl, sym, _∙_}
 use mathlib.Core.Logic.{_⊎_, inl, inr, _≢_}
-use mathlib.Core.Bool.{Bool, true, false, _&&_, _||_, not}
-use Prim.Native.Nat.{ℕ, _+_, _≤_, _<_}
-use native.Mathlib.Omega.{arith}
-use native.Mathlib.Decide.{ℕ-discrete, decLt}
+use mathlib.Core.Bool.{Bool, true, false, _||_, not}
+use Prim.Native.Nat.{ℕ, _≤_}
+use native.Mathlib.Decide.{ℕ-discrete}
 use lib.Dec.{T, eqb, ltb, leb, eqb→eq, ltb→lt, leb→le, lt→ltb, le→leb, not-T, T-not}
 use Rattle.rules.specs.Net.{Net, Usable}
 use Rattle.rules.specs.Tree.{Rows, Reached, Tight, Offer, RootRow, Bare, Hung, Row, root, hung, bare}
-use Rattle.rules.specs.Tests.{pick, all, usable, reached, sumBy, tight, offers, rootRow, bareRow, firstBy, hungRow, breaks}
+use Rattle.rules.specs.Tests.{all, usable, reached, sumBy, tight, offers, rootRow, bareRow, firstBy, hungRow, breaks}
 use Rattle.rules.proofs.Logic.{and, and-l, and-r, or-cases, or-l, or-r, eq→eqb, neqb→ne, ne→neqb, all-at, all-is, T-true, T-false, true-T, true-false}
 
 module _ (N : Net) where

@@ -1,22 +1,22 @@
 -- What an accepted call makes sure of. Assumes nothing.
-use mathlib.Core.Path.{_≡_, refl, sym, ap, _∙_}
+use mathlib.Core.Path.{_≡_, refl, sym}
 use mathlib.Core.Logic.{_≢_}
-use mathlib.Core.Bool.{Bool, true, false, _&&_, _||_, not}
+use mathlib.Core.Bool.{Bool, true, false, _||_, not}
 use mathlib.Core.List.{List}
-use Prim.Native.Nat.{ℕ, _+_, _*_, _-_, _≤_, _<_}
+use Prim.Native.Nat.{ℕ, _-_, _≤_, _<_}
 use native.Mathlib.Omega.{arith}
-use native.Mathlib.Nat.{mul-le-mul-left, mul-comm}
+use native.Mathlib.Nat.{mul-le-mul-left}
 use native.Mathlib.Decide.{decLt}
-use lib.Dec.{T, eqb, ltb, leb}
+use lib.Dec.{eqb, ltb, leb}
 use lib.ListN.{length, getD, List·getD-eq-default}
 use borrow.Author.Tests.{lt-ltb, le-ltb, ltb-false, leb-false, eqb-false, eqb-true, not-false}
-use Rattle.rules.specs.Net.{Net, Legal, Roomy}
-use Rattle.rules.specs.Tree.{Rows, Row, bare, Fits, Reached}
-use Rattle.rules.specs.Tests.{pick, firstBelow, breaks, reached}
+use Rattle.rules.specs.Net.{Legal, Roomy}
+use Rattle.rules.specs.Tree.{Row, bare, Fits}
+use Rattle.rules.specs.Tests.{firstBelow, breaks}
 use Rattle.rules.specs.Columns.{Table, Proper, Tree, Whole, netOf, rowsOf, mostNodes, mostLinks, mostCost, unreached, noLink}
-use Rattle.rules.specs.Refusals.{Verdict, accepted, refused, _then_, when, whenOne, wrongNodeCount, wrongRoot, wrongColumns, wrongEnds, wrongEndsAt, wrongOrderAt, judgeLinks, judgeTree, judgeRows, judgeUpdate, judgeAsked}
+use Rattle.rules.specs.Refusals.{Verdict, accepted, refused, _then_, when, whenOne, wrongNodeCount, wrongRoot, wrongColumns, wrongEnds, wrongEndsAt, wrongOrderAt, judgeLinks, judgeTree}
 use Rattle.rules.specs.Demands.{Narrow}
-use Rattle.rules.proofs.Logic.{First, first-of, T-true, T-false, true-T, true-false, or-l, or-r}
+use Rattle.rules.proofs.Logic.{First, first-of, true-false}
 use Rattle.rules.proofs.Check.{keeps-rules, breaks-rule}
 
 -- ---- verdicts

@@ -1,18 +1,16 @@
 -- One input admits one outcome: two results that keep the rules on one input are equal, as whole arrays and lists.
 -- Assumes nothing.
 use mathlib.Core.Path.{_≡_, refl, sym, ap, _∙_}
-use mathlib.Core.List.{List, [], _∷_, _++_}
-use Prim.Native.Nat.{ℕ, zero, suc, _≤_, _<_}
+use mathlib.Core.List.{List, [], _∷_}
+use Prim.Native.Nat.{ℕ}
 use native.Mathlib.Omega.{arith}
-use lib.ListN.{length, getD, set, length-set}
+use lib.ListN.{length, set, length-set}
 use lib.Dec.{eqb}
 use lib.Seq.{ext-getD}
 use Rattle.rules.specs.Tests.{pick}
-use Rattle.rules.specs.Net.{Net, Legal}
-use Rattle.rules.specs.Tree.{Rows, Path}
 use Rattle.rules.specs.Keep.{Fresh, Next}
-use Rattle.rules.specs.Columns.{Table, Proper, Tree, Whole, netOf, rowsOf, emptyTree, applied, after, unreached, noLink}
-use Rattle.rules.specs.Refusals.{Verdict, accepted, refused, _then_, judgeLinks, judgeTree, judgeBatch, judgeUpdate, judgeAsked}
+use Rattle.rules.specs.Columns.{Table, Proper, Tree, Whole, netOf, rowsOf, applied, after, unreached, noLink}
+use Rattle.rules.specs.Refusals.{Verdict, accepted, refused, judgeLinks, judgeTree, judgeBatch, judgeUpdate}
 use Rattle.rules.specs.Answers.{told, numberIn, numberOf}
 use Rattle.rules.specs.Jobs.{written, changedBelow, Built, built, not-built, Updated, updated, not-updated, Pathed, pathed, too-short, not-pathed}
 use Rattle.rules.specs.declared.Change.{Change}

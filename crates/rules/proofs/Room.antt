@@ -2,16 +2,16 @@
 -- passes the largest cost times the number of other nodes. Assumes nothing.
 use mathlib.Core.Path.{_≡_, refl}
 use mathlib.Core.Logic.{_⊎_, inl, inr}
-use mathlib.Core.Bool.{Bool, true}
-use Prim.Native.Nat.{ℕ, zero, suc, _+_, _*_, _-_, _≤_, _<_}
+use mathlib.Core.Bool.{true}
+use Prim.Native.Nat.{ℕ, _+_, _*_, _≤_, _<_}
 use native.Mathlib.Omega.{arith}
 use native.Mathlib.Nat.{mul-suc, mul-le-mul-left}
 use lib.Dec.{ltb, ltb→lt, lt→ltb}
-use Rattle.rules.specs.Net.{Net, Legal, Roomy, Usable, Walk, at-root, along}
+use Rattle.rules.specs.Net.{Net, Legal, Roomy, Walk, at-root, along}
 use Rattle.rules.specs.Tree.{Rows, Reached, Tight, Offer, Row, root, hung, bare, Fits}
 use Rattle.rules.specs.Keep.{count}
 use Rattle.rules.proofs.Logic.{by-size, count-lt, count-all}
-use Rattle.rules.proofs.Sound.{offered, offered-reached, root-reached}
+use Rattle.rules.proofs.Sound.{offered-reached, root-reached}
 
 -- how many nodes are nearer than d
 unfoldable pub nearer : Net → Rows → ℕ → ℕ

@@ -3,12 +3,12 @@
 use mathlib.Core.Path.{_≡_, refl, sym, ap, _∙_, subst, subst₂}
 use mathlib.Core.Logic.{_⊎_, inl, inr, _≢_}
 use mathlib.Core.List.{List, [], _∷_, _++_}
-use Prim.Native.Nat.{ℕ, zero, suc, _+_, _≤_, _<_}
+use Prim.Native.Nat.{ℕ, _+_, _≤_, _<_}
 use native.Mathlib.Omega.{arith}
 use native.Mathlib.Decide.{ℕ-discrete, decLt}
-use lib.ListN.{length, getD}
+use lib.ListN.{getD}
 use Rattle.rules.specs.Net.{Net, Legal, Usable, Walk, at-root, along, Least}
-use Rattle.rules.specs.Tree.{Rows, total, Reached, Tight, Offer, RootRow, Bare, Hung, Row, root, hung, bare, Fits, Path, by-parent, Routed, Shortest}
+use Rattle.rules.specs.Tree.{Rows, total, Reached, Offer, Bare, Hung, Row, root, hung, bare, Fits, Path, by-parent, Routed, Shortest}
 use Rattle.rules.proofs.Logic.{by-size}
 
 -- ---- what a row says of its distance

@@ -1,14 +1,13 @@
 -- Two trees that fit one network have the same distances, and with one choice of parents they have the same rows.
 -- Assumes nothing.
-use mathlib.Core.Path.{_≡_, refl, sym, ap, _∙_}
-use mathlib.Core.Logic.{_⊎_, inl, inr, _≢_}
-use Prim.Native.Nat.{ℕ, _+_, _≤_, _<_}
+use mathlib.Core.Path.{_≡_, sym, ap, _∙_}
+use Prim.Native.Nat.{ℕ, _≤_, _<_}
 use native.Mathlib.Omega.{arith}
 use native.Mathlib.Nat.{le-antisymm}
 use native.Mathlib.Decide.{ℕ-discrete}
-use Rattle.rules.specs.Net.{Net, Legal, Walk}
+use Rattle.rules.specs.Net.{Net, Legal}
 use Rattle.rules.specs.Tree.{Rows, Reached, Tight, RootRow, Hung, Bare, Row, root, hung, bare, Fits}
-use Rattle.rules.specs.Keep.{Smallest, Choice, keeps, takes, Fresh, Next}
+use Rattle.rules.specs.Keep.{Choice, keeps, takes, Fresh, Next}
 use Rattle.rules.proofs.Logic.{by-size}
 use Rattle.rules.proofs.Sound.{no-longer, fits-shortest}
 

@@ -1,4 +1,5 @@
--- What 01-scope.md says, as definitions, in reading order. Theorems about them stand in proofs/.
+-- What 01-scope.md says, as definitions, in reading order. Laws about them stand in proofs/, theorems in the crates
+-- `demands`, `pier` and `once`.
 pub mod Net
 pub mod Tree
 pub mod Keep

@@ -1,10 +1,9 @@
 -- The table of refusals: when each number applies, what it carries, and which of several is given. Assumes nothing.
-use mathlib.Core.Bool.{Bool, true, false, _&&_, _||_, not}
+use mathlib.Core.Bool.{Bool, _||_, not}
 use mathlib.Core.List.{List}
 use Prim.Native.Nat.{ℕ, _-_}
 use lib.Dec.{eqb, ltb, leb}
 use lib.ListN.{length, getD}
-use Rattle.rules.specs.Tree.{Rows}
 use Rattle.rules.specs.Tests.{pick, firstBelow, reached, breaks}
 use Rattle.rules.specs.Columns.{Table, Tree, narrow, netIn, netOf, rowsIn, rowsOf, mostNodes, mostLinks, mostRows, noLink}
 use Rattle.rules.specs.declared.Change.{Change}

@@ -1,10 +1,9 @@
 -- `judge::judge_asked` meets its contract: tree, node and its distance are asked in the order of their numbers.
 -- Assumes nothing.
-use mathlib.Core.Path.{_≡_, refl, sym, ap, _∙_}
+use mathlib.Core.Path.{_≡_, sym, ap, _∙_}
 use Prim.Native.Nat.{_<_}
 use native.Mathlib.Omega.{arith}
 use lib.Dec.{eqb}
-use lib.ListN.{getD}
 use borrow.Author.Needs.{needs}
 use Rattle.rules.specs.Columns.{Table, Tree, Whole, table, arrays, rowsOf, mostNodes, unreached}
 use Rattle.rules.specs.Refusals.{accepted, judgeTree}

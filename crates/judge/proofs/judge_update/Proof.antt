@@ -1,5 +1,5 @@
 -- `judge::judge_update` meets its contract: tree, rows and list are asked in the order of their numbers. Assumes nothing.
-use mathlib.Core.Path.{_≡_, refl, sym, _∙_}
+use mathlib.Core.Path.{_≡_, sym, _∙_}
 use mathlib.Core.List.{List}
 use borrow.Author.Needs.{needs}
 use Rattle.rules.specs.Columns.{Table, Tree, Whole, table, arrays}
