@@ -1,8 +1,8 @@
 /* The route calculation, for programs in C and others that can call C.
  *
- * Link with target/staticlib/libborder.a, which `rt staticlib border` writes for x86-64. It asks for memcpy and memset
- * and nothing else, allocates nothing and keeps no pointer. Calls on memory that no other thread touches may run at the
- * same time.
+ * Link with libroutes.a: `make archive` proves it and writes target/lib/libroutes.a, for x86-64 Linux, and `make install`
+ * installs it with this header and a pkg-config file, `routes`. It asks for memcpy and memset and nothing else, allocates
+ * nothing and keeps no pointer. Calls on memory that no other thread touches may run at the same time.
  *
  * Memory. All memory is the caller's, before and after the call.
  *   - A column or list is a pointer and a length in entries. Any length may be given: the functions judge it. The
@@ -95,8 +95,9 @@ uint16_t routes_build(
     uint16_t *value);
 
 /* Update: refusals 1 to 9 and 12. The batch stands in two columns, link numbers and new costs; it has a row for each
- * place that both have, so what the longer one has behind them isn't read. dist, parent and first hold the tree, which
- * must fit the table as it stands.
+ * place that both have, so what the longer one has behind them isn't read. An empty batch is accepted: pass length 0 for
+ * both, with any pointer that isn't null and is aligned, such as starts. dist, parent and first hold the tree, which must
+ * fit the table as it stands.
  *
  * Accepted: the rows' costs are written into costs, whose other places stay; the tree becomes the next one; the changed
  * nodes stand in rising order in the first *count places of list, whose other places stay.
@@ -107,8 +108,8 @@ uint16_t routes_update(
     const uint16_t *starts, size_t starts_len,
     const uint16_t *ends, size_t ends_len,
     uint16_t *costs, size_t costs_len,
-    const uint16_t *changed, size_t changed_len,
-    const uint16_t *newcosts, size_t newcosts_len,
+    const uint16_t *batch_links, size_t batch_links_len,
+    const uint16_t *batch_costs, size_t batch_costs_len,
     uint32_t *dist, uint16_t *parent, uint16_t *first,
     uint16_t *list, size_t list_len,
     size_t *count, uint16_t *value);

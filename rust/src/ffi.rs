@@ -26,8 +26,9 @@ extern "C" {
     ) -> u16;
     fn routes_update(
         nodes: usize, root: usize, starts: Pointer, starts_len: usize, ends: Pointer, ends_len: usize,
-        costs: Place, costs_len: usize, changed: Pointer, changed_len: usize, newcosts: Pointer, newcosts_len: usize,
-        dist: *mut u32, parent: Place, first: Place, list: Place, list_len: usize, count: *mut usize, value: Place,
+        costs: Place, costs_len: usize, batch_links: Pointer, batch_links_len: usize,
+        batch_costs: Pointer, batch_costs_len: usize, dist: *mut u32, parent: Place, first: Place,
+        list: Place, list_len: usize, count: *mut usize, value: Place,
     ) -> u16;
     fn routes_path(
         nodes: usize, root: usize, starts: Pointer, starts_len: usize, ends: Pointer, ends_len: usize,

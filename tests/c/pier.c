@@ -99,6 +99,9 @@ int main(void) {
     hold(listed(3, (uint16_t[]){1, 2, 3}), "P2's list");
     hold(costs[3] == 5 && costs[0] == 2, "P2's costs");
 
+    hold(update(0, starts, starts) == 0 && listed(0, list), "an empty batch changes nothing");
+    hold(rows((uint32_t[]){0, 2, 7, 8}, (uint16_t[]){NO, 0, 3, 6}, (uint16_t[]){NO, 0, 0, 0}), "and leaves P2's rows");
+
     hold(update(1, (uint16_t[]){3}, (uint16_t[]){6}) == 0, "P4 is accepted");
     hold(rows((uint32_t[]){0, 2, 7, 8}, (uint16_t[]){NO, 0, 1, 6}, (uint16_t[]){NO, 0, 1, 1}), "P4's rows");
     hold(listed(2, (uint16_t[]){2, 3}), "P4's list");

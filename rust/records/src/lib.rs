@@ -49,18 +49,67 @@ const KINDS: [(&str, u8, &[&str]); 5] = [
     ("ask", 5, &["node"]),
 ];
 
-/// The bytes that a text stands for.
-pub fn to_bytes(text: &[u8]) -> Result<Vec<u8>, Wrong> {
-    let mut stream = Vec::new();
-    for (line, number) in text.split(|byte| *byte == b'\n').zip(1..) {
-        write_line(line, &mut stream).map_err(|what| Wrong { line: number, what })?;
-    }
-    Ok(stream)
+/// A line of a text that stands for some bytes of the stream.
+#[derive(Debug, Clone, PartialEq, Eq)]
+pub struct Line {
+    /// Which line of the text it is, counted from 1.
+    pub number: usize,
+    /// Where its bytes begin in the stream.
+    pub place: usize,
+    /// What it says, without its comment.
+    pub said: String,
 }
 
-fn write_line(line: &[u8], stream: &mut Vec<u8>) -> Result<(), String> {
+/// A stream that was written as text: its bytes, and the line that each of them was written on.
+///
+/// ```
+/// let stream = records::Stream::of_text(b"network 1 root 0\n\nask 0 # the island\n").unwrap();
+/// assert_eq!(stream.bytes, [1, 0, 1, 0, 0, 5, 0, 0]);
+/// let line = stream.line_at(5).unwrap();
+/// assert_eq!((line.number, line.place, line.said.as_str()), (3, 5, "ask 0"));
+/// ```
+#[derive(Debug, Clone, PartialEq, Eq, Default)]
+pub struct Stream {
+    /// The bytes.
+    pub bytes: Vec<u8>,
+    /// The lines that stand for some, in their order.
+    pub lines: Vec<Line>,
+}
+
+impl Stream {
+    /// The stream that a text stands for.
+    pub fn of_text(text: &[u8]) -> Result<Stream, Wrong> {
+        let mut stream = Stream::default();
+        for (line, number) in text.split(|byte| *byte == b'\n').zip(1..) {
+            let wrong = |what| Wrong { line: number, what };
+            let said = said(line).map_err(wrong)?;
+            let place = stream.bytes.len();
+            write_line(said, &mut stream.bytes).map_err(wrong)?;
+            if stream.bytes.len() > place {
+                stream.lines.push(Line { number, place, said: said.to_string() });
+            }
+        }
+        Ok(stream)
+    }
+
+    /// The line that the byte at a place was written on.
+    pub fn line_at(&self, place: usize) -> Option<&Line> {
+        self.lines.iter().rev().find(|line| line.place <= place).filter(|_| place < self.bytes.len())
+    }
+}
+
+/// The bytes that a text stands for.
+pub fn to_bytes(text: &[u8]) -> Result<Vec<u8>, Wrong> {
+    Stream::of_text(text).map(|stream| stream.bytes)
+}
+
+// What a line says, without its comment and the spaces around it.
+fn said(line: &[u8]) -> Result<&str, String> {
     let line = std::str::from_utf8(line).map_err(|_| "these bytes are no text (UTF-8)".to_string())?;
-    let said = line.split('#').next().unwrap_or("");
+    Ok(line.split('#').next().unwrap_or("").trim())
+}
+
+fn write_line(said: &str, stream: &mut Vec<u8>) -> Result<(), String> {
     let mut words = said.split_whitespace();
     let Some(word) = words.next() else {
         return Ok(());

@@ -2,11 +2,17 @@
 use std::io::Write;
 use std::process::{Command, Output, Stdio};
 
+const USAGE: &str = "usage: records <TEXT >STREAM, or records --text <STREAM >TEXT\n";
+
 fn run(words: &[&str], input: &[u8]) -> Output {
+    run_to(words, input, Stdio::piped())
+}
+
+fn run_to(words: &[&str], input: &[u8], output: Stdio) -> Output {
     let mut child = Command::new(env!("CARGO_BIN_EXE_records"))
         .args(words)
         .stdin(Stdio::piped())
-        .stdout(Stdio::piped())
+        .stdout(output)
         .stderr(Stdio::piped())
         .spawn()
         .unwrap();
@@ -35,7 +41,30 @@ fn a_wrong_line_is_told_and_nothing_is_written() {
 
 #[test]
 fn other_words_are_refused() {
-    let ended = run(&["--texts"], b"");
-    assert_eq!(ended.status.code(), Some(1));
-    assert_eq!(ended.stderr, b"records: usage: records <TEXT >STREAM, or records --text <STREAM >TEXT\n");
+    for words in [&["--texts"][..], &["--text", "--text"], &["pier.txt"]] {
+        let ended = run(words, b"");
+        assert_eq!((ended.status.code(), ended.stdout.len()), (Some(2), 0));
+        assert_eq!(ended.stderr, USAGE.as_bytes());
+    }
+}
+
+#[test]
+fn help_is_no_failure() {
+    for word in ["--help", "-h"] {
+        let ended = run(&[word], b"");
+        assert_eq!((ended.status.code(), ended.stderr.len()), (Some(0), 0));
+        assert_eq!(ended.stdout, USAGE.as_bytes());
+    }
+}
+
+// /dev/full takes nothing: a short output, which stays in a buffer till the end, must fail as a long one does.
+#[test]
+fn what_can_t_be_written_is_told() {
+    for (words, input) in [(&[][..], b"apply\n".to_vec()), (&[], b"apply\n".repeat(10_000)), (&["--text"], vec![4])] {
+        let full = std::fs::OpenOptions::new().write(true).open("/dev/full").unwrap();
+        let ended = run_to(words, &input, full.into());
+        assert_eq!(ended.status.code(), Some(1));
+        let told = String::from_utf8(ended.stderr).unwrap();
+        assert!(told.starts_with("records: standard output: "), "{told}");
+    }
 }

@@ -1,25 +1,19 @@
 // The product, through the C functions, and through the safe interface that stands on them.
-use crate::interpret::Record;
-use crate::reader::Reading;
-use crate::reckon::{Table, Told, Tree};
+use reckon::rules::{Table, Told, Tree};
+use reckon::stream::Record;
 use routes::ffi::{self, Batch, Net, Rows, RowsMut};
 use routes::{Change, Network, Records, Refusal};
+
+// The number, the value and the count.
+pub type Answer = (u16, u16, usize);
 
 pub trait Product {
     fn judge_links(&self, t: &Table) -> Told;
     fn judge_tree(&self, t: &Table, tree: &Tree) -> Told;
-    fn build(&self, t: &Table, tree: &mut Tree) -> Told;
+    fn build(&self, t: &Table, tree: RowsMut) -> Told;
     // `t.costs` is what stands in `costs` before the call.
-    fn update(
-        &self,
-        t: &Table,
-        costs: &mut [u16],
-        links: &[u16],
-        prices: &[u16],
-        tree: &mut Tree,
-        list: &mut [u16],
-    ) -> (u16, u16, usize);
-    fn path(&self, t: &Table, tree: &Tree, asked: usize, list: &mut [u16]) -> (u16, u16, usize);
+    fn update(&self, t: &Table, costs: &mut [u16], batch: Batch, tree: RowsMut, list: &mut [u16]) -> Answer;
+    fn path(&self, t: &Table, tree: &Tree, asked: usize, list: &mut [u16]) -> Answer;
 }
 
 // The archive's functions.
@@ -33,7 +27,7 @@ fn rows(tree: &Tree) -> Rows<'_> {
     Rows { dist: &tree.dist, parent: &tree.parent, first: &tree.first }
 }
 
-fn rows_mut(tree: &mut Tree) -> RowsMut<'_> {
+pub fn rows_mut(tree: &mut Tree) -> RowsMut<'_> {
     RowsMut { dist: &mut tree.dist, parent: &mut tree.parent, first: &mut tree.first }
 }
 
@@ -48,25 +42,17 @@ impl Product for Archive {
         (told.number, told.value)
     }
 
-    fn build(&self, t: &Table, tree: &mut Tree) -> Told {
-        let told = ffi::build(lent(t), t.costs, rows_mut(tree));
+    fn build(&self, t: &Table, tree: RowsMut) -> Told {
+        let told = ffi::build(lent(t), t.costs, tree);
         (told.number, told.value)
     }
 
-    fn update(
-        &self,
-        t: &Table,
-        costs: &mut [u16],
-        links: &[u16],
-        prices: &[u16],
-        tree: &mut Tree,
-        list: &mut [u16],
-    ) -> (u16, u16, usize) {
-        let told = ffi::update(lent(t), costs, Batch { links, costs: prices }, rows_mut(tree), list);
+    fn update(&self, t: &Table, costs: &mut [u16], batch: Batch, tree: RowsMut, list: &mut [u16]) -> Answer {
+        let told = ffi::update(lent(t), costs, batch, tree, list);
         (told.number, told.value, told.count)
     }
 
-    fn path(&self, t: &Table, tree: &Tree, asked: usize, list: &mut [u16]) -> (u16, u16, usize) {
+    fn path(&self, t: &Table, tree: &Tree, asked: usize, list: &mut [u16]) -> Answer {
         let told = ffi::path(lent(t), t.costs, rows(tree), asked, list);
         (told.number, told.value, told.count)
     }
@@ -82,6 +68,10 @@ fn net(t: &Table, costs: &[u16]) -> Network {
 
 fn value(tree: &Tree) -> routes::Tree {
     routes::Tree { distances: tree.dist, parents: tree.parent, firsts: tree.first }
+}
+
+fn write(tree: RowsMut, made: &routes::Tree) {
+    (*tree.dist, *tree.parent, *tree.first) = (made.distances, made.parents, made.firsts);
 }
 
 fn told<T>(answer: Result<T, Refusal>) -> (Told, Option<T>) {
@@ -100,37 +90,29 @@ impl Product for Safe {
         told(value(tree).judge(&net(t, t.costs))).0
     }
 
-    fn build(&self, t: &Table, tree: &mut Tree) -> Told {
+    fn build(&self, t: &Table, tree: RowsMut) -> Told {
         let (told, built) = told(routes::Tree::build(&net(t, t.costs)));
-        let built = built.unwrap_or_else(routes::Tree::empty);
-        *tree = Tree { dist: built.distances, parent: built.parents, first: built.firsts };
+        write(tree, &built.unwrap_or_else(routes::Tree::empty));
         told
     }
 
-    fn update(
-        &self,
-        t: &Table,
-        costs: &mut [u16],
-        links: &[u16],
-        prices: &[u16],
-        tree: &mut Tree,
-        list: &mut [u16],
-    ) -> (u16, u16, usize) {
+    fn update(&self, t: &Table, costs: &mut [u16], batch: Batch, tree: RowsMut, list: &mut [u16]) -> Answer {
         if list.len() < t.nodes {
-            return Archive.update(t, costs, links, prices, tree, list);
+            return Archive.update(t, costs, batch, tree, list);
         }
-        let batch: Vec<Change> =
-            links.iter().zip(prices).map(|(link, cost)| Change { link: *link, cost: *cost }).collect();
-        let (mut net, mut moving) = (net(t, costs), value(tree));
-        let (told, changed) = told(moving.update(&mut net, &batch));
+        let rows = batch.links.iter().zip(batch.costs);
+        let rows: Vec<Change> = rows.map(|(link, cost)| Change { link: *link, cost: *cost }).collect();
+        let mut moving = routes::Tree { distances: *tree.dist, parents: *tree.parent, firsts: *tree.first };
+        let mut net = net(t, costs);
+        let (told, changed) = told(moving.update(&mut net, &rows));
         let changed = changed.unwrap_or_default();
-        *tree = Tree { dist: moving.distances, parent: moving.parents, first: moving.firsts };
+        write(tree, &moving);
         costs.copy_from_slice(&net.costs);
         list[..changed.len()].copy_from_slice(&changed);
         (told.0, told.1, changed.len())
     }
 
-    fn path(&self, t: &Table, tree: &Tree, asked: usize, list: &mut [u16]) -> (u16, u16, usize) {
+    fn path(&self, t: &Table, tree: &Tree, asked: usize, list: &mut [u16]) -> Answer {
         let (told, links) = told(value(tree).path(&net(t, t.costs), asked));
         let links = links.unwrap_or_default();
         if list.len() < links.len() {
@@ -140,6 +122,9 @@ impl Product for Safe {
         (told.0, told.1, links.len())
     }
 }
+
+// What the reader hands back: the refusal's number, the kind, three numbers and the next place.
+pub type Reading = (u16, u8, [u16; 3], usize);
 
 // The archive's reader.
 pub fn reading(stream: &[u8], place: usize) -> Reading {

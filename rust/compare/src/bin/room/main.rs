@@ -67,7 +67,7 @@ fn written(function: &str, given: &mut Given) -> usize {
 }
 
 fn main() {
-    let archive = Path::new(env!("CARGO_MANIFEST_DIR")).join("../target/lib/libroutes.a");
+    let archive = Path::new(env!("CARGO_MANIFEST_DIR")).join("../../target/lib/libroutes.a");
     let frames = Frames::of(&archive);
     let (mut chain, mut dense) = (chain(), dense());
     println!("bytes of the stack: written on the chain, written on the dense network, reserved");

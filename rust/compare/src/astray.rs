@@ -1,9 +1,9 @@
 // Programs that take a wrong turn on a stream. The comparison has to find each of them, as it finds the products of
 // `wrong`: each prints what is due, but for one thing.
-use crate::interpret::{lines, read, Record, MOST_BYTES};
-use crate::program::Program;
 use crate::shorten::smallest;
 use crate::streams;
+use front::program::Program;
+use reckon::stream::{lines, read, Record, MOST_BYTES};
 use std::time::Duration;
 
 struct Astray {

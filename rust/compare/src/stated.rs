@@ -1,7 +1,7 @@
 // Streams whose lines can be stated without reckoning: the scope's own, and those at the sizes' ends. What is reckoned
 // must be these, and the program must print them too.
-use crate::interpret::{lines, Record};
 use crate::streams::{ask, bytes, change, changes, link, network, pier, scope, stack, with};
+use reckon::stream::{lines, Record};
 
 type Stated = (String, Vec<u8>, String);
 

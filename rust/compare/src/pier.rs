@@ -1,6 +1,6 @@
 // The pier network's table, P1 to P12, by the scope's own numbers: what is reckoned must give them, and the product too.
 use crate::case::{Ask, Batch, Case};
-use crate::reckon::{self, Table, Tree, EMPTY, NONE};
+use reckon::rules::{self, Table, Tree, EMPTY, NONE};
 
 const STARTS: [u16; 8] = [0, 0, 1, 1, 2, 2, 2, 3];
 const ENDS: [u16; 8] = [1, 2, 0, 2, 0, 1, 3, 2];
@@ -46,22 +46,22 @@ pub fn cases() -> Vec<Case> {
     let pier = Table { nodes: 4, root: 0, starts: &STARTS, ends: &ENDS, costs: &COSTS };
     let mut fresh = Case { nodes: 4, starts: STARTS.into(), ends: ENDS.into(), costs: COSTS.into(), ..Case::default() };
     fresh.asks = (0..5).flat_map(|node| (0..5).map(move |list| Ask { node, list })).collect();
-    let p1 = reckon::build(&pier).1;
+    let p1 = rules::build(&pier).1;
     hold("P1", p1 == whole(P1));
-    let p3 = reckon::build(&Table { costs: &[2, 7, 4, 5, 7, 2, 1, 1], ..pier }).1;
+    let p3 = rules::build(&Table { costs: &[2, 7, 4, 5, 7, 2, 1, 1], ..pier }).1;
     hold("P3", (p3.parent[2], p3.first[2]) == (1, 1));
-    let p11 = reckon::update(&pier, &p1, &[(3, 1), (0, 1), (3, 1)], 4);
+    let p11 = rules::update(&pier, &p1, &[(3, 1), (0, 1), (3, 1)], 4);
     hold("P11", p11.told == (9, 2) && p11.tree == p1 && p11.costs == COSTS && p11.changed.is_empty());
     let alone = Table { nodes: 1, root: 0, starts: &[], ends: &[], costs: &[] };
-    let p12 = reckon::build(&alone).1;
-    hold("P12", p12.dist[0] == 0 && reckon::path(&alone, &p12, 0, 0) == ((0, 0), vec![]));
+    let p12 = rules::build(&alone).1;
+    hold("P12", p12.dist[0] == 0 && rules::path(&alone, &p12, 0, 0) == ((0, 0), vec![]));
 
     let asked = vec![Ask { node: 0, list: 0 }];
     let mut cases = vec![fresh.clone(), Case { nodes: 1, asks: asked, ..Case::default() }];
     for (name, batches, rows, changed) in POINTS {
         let (mut tree, mut costs, mut last) = (p1.clone(), COSTS.to_vec(), Vec::new());
         for batch in batches {
-            let next = reckon::update(&Table { costs: &costs, ..pier }, &tree, batch, 4);
+            let next = rules::update(&Table { costs: &costs, ..pier }, &tree, batch, 4);
             (tree, costs, last) = (next.tree, next.costs, next.changed);
         }
         hold(name, tree == whole(rows) && last == changed);

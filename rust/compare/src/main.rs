@@ -1,38 +1,36 @@
-// Compares the product, row by row, with an independent calculation: `reckon` works out each answer from nothing, by the
-// scope's words alone. What is compared: the number and value answered, the whole tree, the cost column, the lent list
+// Compares the product, row by row, with an independent calculation: the crate `reckon` works out each answer from nothing,
+// by the scope's words alone. What is compared: the number and value answered, the whole tree, the cost column, the lent list
 // with the places that must stay, the memory beside them, and the count.
 //
-// It does the same for the program `routes`, stream by stream: `interpret` says what must be printed.
+// It does the same for the program `routes`, stream by stream.
 //
 //     make compare
 //
 // Seeds are fixed, so each run compares the same cases. On a difference it tells the seed and the smallest case found.
 // With a number behind it (`make compare FROM=100000000`) it takes the seeds from there on, and so compares other cases.
-// With `jobs` or `streams` before that it compares only these.
+// With `jobs` or `streams` before that it compares only these. With `networks` it compares nothing: it prints networks with
+// the product's trees, for others to judge.
 #![forbid(unsafe_code)]
 
 mod astray;
 mod case;
-mod interpret;
+mod guard;
 mod listen;
 mod make;
+mod others;
 mod pier;
 mod product;
-mod program;
 mod reader;
-mod reckon;
-// The converter of streams, a crate of its own.
-#[path = "../../../records/src/lib.rs"]
-mod records;
 mod shorten;
 mod shrink;
 mod stated;
 mod streams;
 mod wrong;
 
-use case::{check, Ask, Batch, Case, Edit, Entry, Tally, JOBS};
+use case::{all_came_up, check, Ask, Batch, Case, Edit, Entry, Tally, JOBS};
 use make::{Dice, SHAPES};
 use product::{Archive, Product, Safe};
+use reckon::rules;
 use std::time::Instant;
 
 struct Comparison {
@@ -130,8 +128,8 @@ fn every_damage(c: &mut Comparison, from: u64) {
         let mut dice = Dice::new(seed);
         let shape = [0, 0, 5, 6][seed as usize % 4];
         let whole = make::run(seed, shape, 0, 0);
-        let (_, tree) = reckon::build(&make::table(&whole));
-        for node in 0..reckon::NODES {
+        let (_, tree) = rules::build(&whole.table());
+        for node in 0..rules::NODES {
             for entry in [Entry::Dist, Entry::Parent, Entry::First] {
                 for value in make::damages(&mut dice, &whole, &tree, node, entry) {
                     let case = Case { edits: vec![Edit { node, entry, value }], ..whole.clone() };
@@ -235,9 +233,11 @@ fn jobs(from: u64) {
     fixed(&mut c);
     seeded(&mut c, from);
     println!("\ncalls by answer {}", (0..13).map(|n| format!("{n:>9}")).collect::<String>());
-    for (job, counts) in JOBS.iter().zip(c.tally) {
+    for ((job, _), counts) in JOBS.iter().zip(c.tally) {
         println!("{job:<16}{}", counts.map(|n| format!("{n:>9}")).concat());
     }
+    all_came_up(&c.tally);
+    guard::tried();
     wrong::all_found();
     println!("{} cases, {} calls compared in {:.1} s: 0 differ", c.cases, c.calls(), c.began.elapsed().as_secs_f32());
 }
@@ -255,6 +255,7 @@ fn main() {
         }
         "jobs" => jobs(from),
         "streams" => listen::compare(from),
-        _ => panic!("{part} is neither jobs nor streams"),
+        "networks" => others::print(from).expect("standard output takes the networks"),
+        _ => panic!("{part} is none of jobs, streams and networks"),
     }
 }

@@ -1,6 +1,6 @@
 // The smallest stream found that still differs: records are left out, then bytes, then bytes are made smaller.
-use crate::interpret::{lines, read};
-use crate::program::Program;
+use front::program::Program;
+use reckon::stream::{lines, read};
 use std::ops::Range;
 use std::time::{Duration, Instant};
 

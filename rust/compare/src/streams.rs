@@ -1,6 +1,6 @@
 // Making streams: from seeds, and those at each edge of the scope's words.
-use crate::interpret::{Record, MOST_BYTES};
 use crate::make::{self, shuffle, Dice, Prices};
+use reckon::stream::{Record, MOST_BYTES};
 
 pub fn bytes(records: &[Record]) -> Vec<u8> {
     records.iter().flat_map(|record| record.bytes()).collect()

@@ -1,5 +1,5 @@
-// The scope's rules, worked out from nothing at every call, in the plainest way: distances by relaxing every link again
-// and again until nothing moves, in 64-bit sums; parents and firsts by the words of the rules; refusals down the table.
+//! The scope's rules, worked out from nothing at every call, in the plainest way: distances by relaxing every link again
+//! and again until nothing moves, in 64-bit sums; parents and firsts by the words of the rules; refusals down the table.
 
 pub const NODES: usize = 256;
 pub const UNREACHED: u32 = 16_777_215;

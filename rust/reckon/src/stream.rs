@@ -1,6 +1,5 @@
-// What the program `routes` must print, by the scope's words alone: a reader of streams and a state of its own, over
-// what is reckoned from nothing.
-use crate::reckon::{self, Table, Tree, ACCEPTED, EMPTY, NODES, NONE};
+//! What the program `routes` must print: a reader of streams and a state of its own, over what is reckoned from nothing.
+use crate::rules::{self, Table, Tree, ACCEPTED, EMPTY, NODES, NONE};
 
 pub const MOST_BYTES: usize = 32_768;
 const MOST_LINKS: usize = 4_096;
@@ -33,7 +32,7 @@ impl Record {
     }
 }
 
-// The record at a place inside the stream and the place behind it, or the number of a refusal.
+/// The record at a place inside the stream and the place behind it, or the number of a refusal.
 pub fn read(stream: &[u8], place: usize) -> Result<(Record, usize), u16> {
     let numbers = match stream[place] {
         1 | 3 => 2,
@@ -66,7 +65,8 @@ enum Phase {
     Routing,
 }
 
-struct Run {
+/// The state that the records so far have led to.
+pub struct Run {
     phase: Phase,
     nodes: usize,
     root: usize,
@@ -76,7 +76,21 @@ struct Run {
     tree: Tree,
     // The CHANGEs since the last APPLY.
     rows: Vec<(u16, u16)>,
-    lines: String,
+}
+
+impl Default for Run {
+    fn default() -> Run {
+        Run {
+            phase: Phase::Unread,
+            nodes: 0,
+            root: 0,
+            starts: Vec::new(),
+            ends: Vec::new(),
+            costs: Vec::new(),
+            tree: EMPTY,
+            rows: Vec::new(),
+        }
+    }
 }
 
 impl Run {
@@ -112,85 +126,103 @@ impl Run {
         tests.into_iter().find(|test| test.1).map(|test| test.0)
     }
 
-    // A record that isn't refused.
-    fn take(&mut self, record: Record) {
+    /// Takes a record: the line that it prints, if it prints one, or the number of its refusal.
+    pub fn take(&mut self, record: Record) -> Result<Option<String>, u16> {
+        if let Some(number) = self.refusal(record) {
+            return Err(number);
+        }
+        if !matches!(record, Record::Network { .. } | Record::Link { .. }) {
+            self.build();
+        }
+        let mut line = None;
         match record {
             Record::Network { nodes, root } => {
                 (self.phase, self.nodes, self.root) = (Phase::Linking, nodes as usize, root as usize);
-                return;
             }
             Record::Link { start, end, cost } => {
                 self.starts.push(start);
                 self.ends.push(end);
                 self.costs.push(cost);
-                return;
             }
-            _ => {}
+            Record::Change { link, cost } => self.rows.push((link, cost)),
+            Record::Apply => line = Some(self.apply()),
+            Record::Ask { node } => line = Some(self.row(node)),
         }
+        Ok(line)
+    }
+
+    // The fresh tree, once all LINKs are read.
+    fn build(&mut self) {
         if self.phase == Phase::Linking {
             self.phase = Phase::Routing;
-            self.tree = reckon::build(&self.table()).1;
-        }
-        match record {
-            Record::Change { link, cost } => self.rows.push((link, cost)),
-            Record::Apply => self.apply(),
-            Record::Ask { node } => self.ask(node),
-            _ => {}
+            self.tree = rules::build(&self.table()).1;
         }
     }
 
-    fn apply(&mut self) {
-        let next = reckon::update(&self.table(), &self.tree, &self.rows, NODES);
+    fn apply(&mut self) -> String {
+        let next = rules::update(&self.table(), &self.tree, &self.rows, NODES);
         assert!(next.told == ACCEPTED, "rows that were taken are refused: {:?}", next.told);
-        self.lines.push_str(&format!("A {}", next.changed.len()));
-        next.changed.iter().for_each(|node| self.lines.push_str(&format!(" {node}")));
-        self.lines.push('\n');
         (self.tree, self.costs) = (next.tree, next.costs);
         self.rows.clear();
+        let nodes: String = next.changed.iter().map(|node| format!(" {node}")).collect();
+        format!("A {}{nodes}\n", next.changed.len())
     }
 
-    fn ask(&mut self, node: u16) {
+    // What an ASK for a node prints.
+    fn row(&self, node: u16) -> String {
         let link = |link: u16| if link == NONE { "-".to_string() } else { link.to_string() };
         let v = node as usize;
         let (parent, first) = (link(self.tree.parent[v]), link(self.tree.first[v]));
-        self.lines.push_str(&format!("N {node} {} {parent} {first}\n", self.tree.dist[v]));
+        format!("N {node} {} {parent} {first}\n", self.tree.dist[v])
     }
 
-    fn refuse(mut self, number: u16, place: usize) -> String {
-        self.lines.push_str(&format!("R {number} {place}\n"));
-        self.lines
+    /// What an ASK for each node would print, and nothing before NETWORK.
+    pub fn rows(&mut self) -> Vec<String> {
+        self.build();
+        (0..self.nodes as u16).map(|node| self.row(node)).collect()
+    }
+
+    /// The number of the refusal that the stream's end gives, if it does.
+    pub fn at_end(&self) -> Option<u16> {
+        (self.phase == Phase::Unread).then_some(23)
     }
 }
 
-pub fn lines(stream: &[u8]) -> String {
-    let mut run = Run {
-        phase: Phase::Unread,
-        nodes: 0,
-        root: 0,
-        starts: Vec::new(),
-        ends: Vec::new(),
-        costs: Vec::new(),
-        tree: EMPTY,
-        rows: Vec::new(),
-        lines: String::new(),
-    };
+/// A line that is printed, and the place of the record that prints it.
+#[derive(Debug, PartialEq)]
+pub struct Said {
+    pub place: usize,
+    pub line: String,
+}
+
+fn refused(number: u16, place: usize) -> Said {
+    Said { place, line: format!("R {number} {place}\n") }
+}
+
+/// Each line that a stream prints.
+pub fn said(stream: &[u8]) -> Vec<Said> {
     if stream.len() > MOST_BYTES {
-        return run.refuse(24, MOST_BYTES);
+        return vec![refused(24, MOST_BYTES)];
     }
-    let mut place = 0;
+    let (mut all, mut run, mut place) = (Vec::new(), Run::default(), 0);
     while place < stream.len() {
-        let (record, next) = match read(stream, place) {
-            Ok(read) => read,
-            Err(number) => return run.refuse(number, place),
-        };
-        if let Some(number) = run.refusal(record) {
-            return run.refuse(number, place);
+        let taken = read(stream, place).and_then(|(record, next)| run.take(record).map(|line| (line, next)));
+        match taken {
+            Ok((line, next)) => {
+                all.extend(line.map(|line| Said { place, line }));
+                place = next;
+            }
+            Err(number) => {
+                all.push(refused(number, place));
+                return all;
+            }
         }
-        run.take(record);
-        place = next;
     }
-    if run.phase == Phase::Unread {
-        return run.refuse(23, stream.len());
-    }
-    run.lines
+    all.extend(run.at_end().map(|number| refused(number, place)));
+    all
+}
+
+/// All of them, as the program prints them.
+pub fn lines(stream: &[u8]) -> String {
+    said(stream).into_iter().map(|said| said.line).collect()
 }

@@ -1,6 +1,6 @@
 // Making cases from seeds.
 use crate::case::{Ask, Batch, Case, Edit, Entry};
-use crate::reckon::{self, Table, Tree, NODES, NONE, UNREACHED};
+use reckon::rules::{self, Tree, NODES, NONE, UNREACHED};
 
 // Splitmix: the same numbers from the same seed, everywhere.
 pub struct Dice(u64);
@@ -53,88 +53,110 @@ impl Prices {
     }
 }
 
+// A network's node count, and the start and end of each link, in any order.
+struct Pairs {
+    nodes: usize,
+    all: Vec<(usize, usize)>,
+}
+
+impl Pairs {
+    fn of(nodes: usize) -> Pairs {
+        Pairs { nodes, all: Vec::new() }
+    }
+
+    fn one(&mut self, a: usize, b: usize) {
+        self.all.push((a, b));
+    }
+
+    fn both(&mut self, a: usize, b: usize) {
+        self.one(a, b);
+        self.one(b, a);
+    }
+
+    // So many links between any nodes.
+    fn any(mut self, count: usize, dice: &mut Dice) -> Pairs {
+        for _ in 0..count {
+            self.one(dice.below(self.nodes), dice.below(self.nodes));
+        }
+        self
+    }
+}
+
 pub const SHAPES: [&str; 8] = ["small", "grid", "chain", "star", "dense", "parallel", "ring", "large"];
 
-fn both(pairs: &mut Vec<(usize, usize)>, a: usize, b: usize) {
-    pairs.push((a, b));
-    pairs.push((b, a));
+fn pairs(shape: usize, dice: &mut Dice) -> Pairs {
+    match SHAPES[shape] {
+        "small" => {
+            let n = dice.from(1, 8);
+            let count = if n > 1 { dice.below(3 * n) } else { 0 };
+            Pairs::of(n).any(count, dice)
+        }
+        "grid" => grid(dice.from(1, 16), dice.from(1, 16)),
+        "chain" => chain(dice),
+        "star" => {
+            let mut pairs = Pairs::of(dice.from(2, NODES));
+            (1..pairs.nodes).for_each(|v| pairs.both(0, v));
+            pairs
+        }
+        "dense" => {
+            let mut pairs = Pairs::of(dice.from(2, 60));
+            let n = pairs.nodes;
+            (0..n * n).for_each(|v| pairs.one(v / n, v % n));
+            pairs
+        }
+        "parallel" => {
+            let n = dice.from(2, 5);
+            Pairs::of(n).any(dice.from(1, 60), dice)
+        }
+        "ring" => ring(dice),
+        _ => {
+            let n = dice.from(100, NODES);
+            Pairs::of(n).any(dice.from(n, 4_096), dice)
+        }
+    }
+}
+
+fn grid(wide: usize, high: usize) -> Pairs {
+    let mut pairs = Pairs::of(wide * high);
+    for v in 0..wide * high {
+        if v % wide + 1 < wide {
+            pairs.both(v, v + 1);
+        }
+        if v + wide < wide * high {
+            pairs.both(v, v + wide);
+        }
+    }
+    pairs
+}
+
+fn chain(dice: &mut Dice) -> Pairs {
+    let mut pairs = Pairs::of(if dice.one_in(3) { NODES } else { dice.from(2, NODES) });
+    let way = dice.below(3);
+    for v in 1..pairs.nodes {
+        match way {
+            0 => pairs.one(v - 1, v),
+            1 => pairs.one(v, v - 1),
+            _ => pairs.both(v - 1, v),
+        }
+    }
+    pairs
+}
+
+fn ring(dice: &mut Dice) -> Pairs {
+    let mut pairs = Pairs::of(dice.from(3, 60));
+    for v in 0..pairs.nodes {
+        pairs.both(v, (v + 1) % pairs.nodes);
+        if dice.one_in(6) {
+            pairs.one(v, dice.below(pairs.nodes));
+        }
+    }
+    pairs
 }
 
 // A network of a shape, with no edits, batches or asks yet. Nodes are renamed at random, so that the root and the order
 // of links may be anything.
 pub fn network(dice: &mut Dice, shape: usize, prices: Prices) -> Case {
-    let mut pairs = Vec::new();
-    let nodes = match SHAPES[shape] {
-        "small" => {
-            let n = dice.from(1, 8);
-            for _ in 0..if n > 1 { dice.below(3 * n) } else { 0 } {
-                pairs.push((dice.below(n), dice.below(n)));
-            }
-            n
-        }
-        "grid" => {
-            let (w, h) = (dice.from(1, 16), dice.from(1, 16));
-            for v in 0..w * h {
-                if v % w + 1 < w {
-                    both(&mut pairs, v, v + 1);
-                }
-                if v + w < w * h {
-                    both(&mut pairs, v, v + w);
-                }
-            }
-            w * h
-        }
-        "chain" => {
-            let n = if dice.one_in(3) { NODES } else { dice.from(2, NODES) };
-            let way = dice.below(3);
-            for v in 1..n {
-                match way {
-                    0 => pairs.push((v - 1, v)),
-                    1 => pairs.push((v, v - 1)),
-                    _ => both(&mut pairs, v - 1, v),
-                }
-            }
-            n
-        }
-        "star" => {
-            let n = dice.from(2, NODES);
-            for v in 1..n {
-                both(&mut pairs, 0, v);
-            }
-            n
-        }
-        "dense" => {
-            let n = dice.from(2, 60);
-            for v in 0..n * n {
-                pairs.push((v / n, v % n));
-            }
-            n
-        }
-        "parallel" => {
-            let n = dice.from(2, 5);
-            for _ in 0..dice.from(1, 60) {
-                pairs.push((dice.below(n), dice.below(n)));
-            }
-            n
-        }
-        "ring" => {
-            let n = dice.from(3, 60);
-            for v in 0..n {
-                both(&mut pairs, v, (v + 1) % n);
-                if dice.one_in(6) {
-                    pairs.push((v, dice.below(n)));
-                }
-            }
-            n
-        }
-        _ => {
-            let n = dice.from(100, NODES);
-            for _ in 0..dice.from(n, 4_096) {
-                pairs.push((dice.below(n), dice.below(n)));
-            }
-            n
-        }
-    };
+    let Pairs { nodes, all: mut pairs } = pairs(shape, dice);
     let mut names: Vec<usize> = (0..nodes).collect();
     if dice.one_in(2) {
         shuffle(dice, &mut names);
@@ -194,16 +216,12 @@ pub fn ask(dice: &mut Dice, case: &Case) -> Ask {
     Ask { node: dice.below(case.nodes), list: dice.pick(&[256, 256, 300, case.nodes, case.nodes - 1, 1, 0]) }
 }
 
-pub fn table(case: &Case) -> Table<'_> {
-    Table { nodes: case.nodes, root: case.root, starts: &case.starts, ends: &case.ends, costs: &case.costs }
-}
-
 // A run of batches from a fresh build, and paths at its end.
 pub fn run(seed: u64, shape: usize, batches: usize, asks: usize) -> Case {
     let mut dice = Dice::new(seed);
     let prices = Prices::any(&mut dice);
     let mut case = network(&mut dice, shape, prices);
-    let fresh = reckon::build(&table(&case)).1;
+    let fresh = rules::build(&case.table()).1;
     let favoured: Vec<u16> = fresh.parent.into_iter().filter(|link| *link != NONE).collect();
     for _ in 0..batches {
         let batch = batch(&mut dice, &case, prices, &favoured);
@@ -220,8 +238,8 @@ pub fn run(seed: u64, shape: usize, batches: usize, asks: usize) -> Case {
 pub fn from_another(seed: u64, shape: usize, batches: usize) -> Case {
     let mut case = run(seed, shape, batches, 3);
     let mut dice = Dice::new(!seed);
-    let t = table(&case);
-    let (_, fresh) = reckon::build(&t);
+    let t = case.table();
+    let (_, fresh) = rules::build(&t);
     let mut tree = fresh.clone();
     for k in 0..t.starts.len() {
         let (start, end) = (t.starts[k] as usize, t.ends[k] as usize);
@@ -275,7 +293,7 @@ pub fn damages(dice: &mut Dice, case: &Case, tree: &Tree, node: usize, entry: En
 pub fn damaged(seed: u64, shape: usize) -> Case {
     let mut case = run(seed, shape, 1, 1);
     let mut dice = Dice::new(!seed);
-    let (_, tree) = reckon::build(&table(&case));
+    let (_, tree) = rules::build(&case.table());
     let links = case.starts.len();
     for _ in 0..dice.from(1, 4) {
         let node = if dice.one_in(8) { dice.below(NODES) } else { dice.below(case.nodes) };
@@ -304,52 +322,85 @@ pub fn malformed(seed: u64) -> Case {
     let mut case = run(seed, shape, 1, 1);
     case.asks[0].list = 256;
     for _ in 0..dice.from(1, 3) {
-        let links = case.starts.len();
-        let some = dice.below(links.max(1));
-        let odd = [case.nodes, case.nodes.wrapping_add(1), 255, 256, 257, 65_535];
         match dice.below(20) {
-            0 => case.nodes = dice.pick(&[0, 257, 258, 65_536, 65_537, 1 << 32, usize::MAX]),
-            1 => case.root = dice.pick(&[case.nodes, case.nodes.wrapping_add(1), 256, 65_536, 1 << 32, usize::MAX]),
-            2 => case.nodes = dice.from(1, 256),
-            3 => case.starts.push(dice.below(9) as u16),
-            4 => case.ends.push(dice.below(9) as u16),
-            5 => case.costs.push(dice.below(9) as u16),
-            6 => case.costs.truncate(some),
-            7 => case.ends.truncate(some),
-            8 if links > 0 => case.starts[some] = dice.pick(&odd) as u16,
-            9 if links > 0 && some < case.ends.len() => case.ends[some] = dice.pick(&odd) as u16,
-            10 if links > 0 && some < case.ends.len() => case.ends[some] = case.starts[some],
-            11 if links > 0 => case.starts[some] = dice.below(9) as u16,
-            12 if links > 1 => case.starts.swap(0, links - 1),
+            fault @ 0..=7 => wrong_columns(&mut dice, &mut case, fault),
+            fault @ 8..=12 => wrong_links(&mut dice, &mut case, fault),
             13 => {
                 let node = dice.below(NODES);
                 case.edits.push(Edit { node, entry: Entry::Dist, value: dice.below(1 << 25) as u32 });
             }
-            14 => {
-                let rows = dice.pick(&[255, 256, 257, 300, 70_000]);
-                case.batches[0].links = (0..rows).map(|row| (row % links.max(1)) as u16).collect();
-                case.batches[0].costs = vec![5; rows + dice.below(2)];
-            }
-            15 => {
-                let place = dice.from(0, case.batches[0].links.len());
-                let link = dice.pick(&[links as u16, 4_095, 4_096, 65_535, some as u16]);
-                case.batches[0].links.insert(place, link);
-                case.batches[0].costs.push(5);
-            }
-            16 => {
-                let again = case.batches[0].links.clone();
-                let place = dice.from(0, again.len());
-                case.batches[0].links.extend_from_slice(&again[..place]);
-                case.batches[0].costs.extend(vec![0; place]);
-            }
-            17 => case.batches[0].list = case.nodes.wrapping_sub(1).min(300),
-            18 => case.asks[0].node = dice.pick(&[case.nodes, 255, 256, 65_536, 1 << 32, usize::MAX]),
-            19 => {
-                case.costs.iter_mut().for_each(|cost| *cost = 0);
-                case.asks[0].node = dice.below(case.nodes.clamp(1, 300));
-            }
-            _ => case.asks[0].list = 0,
+            fault @ 14..=17 => wrong_batch(&mut dice, &mut case, fault),
+            fault => wrong_ask(&mut dice, &mut case, fault),
         }
     }
     case
+}
+
+// Some link, where there are any.
+fn some_link(dice: &mut Dice, case: &Case) -> usize {
+    dice.below(case.starts.len().max(1))
+}
+
+fn wrong_columns(dice: &mut Dice, case: &mut Case, fault: usize) {
+    let some = some_link(dice, case);
+    match fault {
+        0 => case.nodes = dice.pick(&[0, 257, 258, 65_536, 65_537, 1 << 32, usize::MAX]),
+        1 => case.root = dice.pick(&[case.nodes, case.nodes.wrapping_add(1), 256, 65_536, 1 << 32, usize::MAX]),
+        2 => case.nodes = dice.from(1, 256),
+        3 => case.starts.push(dice.below(9) as u16),
+        4 => case.ends.push(dice.below(9) as u16),
+        5 => case.costs.push(dice.below(9) as u16),
+        6 => case.costs.truncate(some),
+        _ => case.ends.truncate(some),
+    }
+}
+
+fn wrong_links(dice: &mut Dice, case: &mut Case, fault: usize) {
+    let (links, some) = (case.starts.len(), some_link(dice, case));
+    let odd = [case.nodes, case.nodes.wrapping_add(1), 255, 256, 257, 65_535];
+    if links == 0 {
+        return;
+    }
+    match fault {
+        8 => case.starts[some] = dice.pick(&odd) as u16,
+        9 if some < case.ends.len() => case.ends[some] = dice.pick(&odd) as u16,
+        10 if some < case.ends.len() => case.ends[some] = case.starts[some],
+        11 => case.starts[some] = dice.below(9) as u16,
+        _ => case.starts.swap(0, links - 1),
+    }
+}
+
+fn wrong_batch(dice: &mut Dice, case: &mut Case, fault: usize) {
+    let (links, some) = (case.starts.len(), some_link(dice, case));
+    let batch = &mut case.batches[0];
+    match fault {
+        14 => {
+            let rows = dice.pick(&[255, 256, 257, 300, 70_000]);
+            batch.links = (0..rows).map(|row| (row % links.max(1)) as u16).collect();
+            batch.costs = vec![5; rows + dice.below(2)];
+        }
+        15 => {
+            let place = dice.from(0, batch.links.len());
+            let link = dice.pick(&[links as u16, 4_095, 4_096, 65_535, some as u16]);
+            batch.links.insert(place, link);
+            batch.costs.push(5);
+        }
+        16 => {
+            let place = dice.from(0, batch.links.len());
+            batch.links.extend_from_within(..place);
+            batch.costs.extend(vec![0; place]);
+        }
+        _ => batch.list = case.nodes.wrapping_sub(1).min(300),
+    }
+}
+
+fn wrong_ask(dice: &mut Dice, case: &mut Case, fault: usize) {
+    match fault {
+        18 => case.asks[0].node = dice.pick(&[case.nodes, 255, 256, 65_536, 1 << 32, usize::MAX]),
+        19 if dice.one_in(2) => case.asks[0].list = 0,
+        _ => {
+            case.costs.iter_mut().for_each(|cost| *cost = 0);
+            case.asks[0].node = dice.below(case.nodes.clamp(1, 300));
+        }
+    }
 }

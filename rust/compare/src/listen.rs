@@ -1,11 +1,11 @@
 // Compares what the program `routes` prints with what must be printed, byte for byte, stream by stream.
-use crate::interpret::lines;
-use crate::program::{Compiled, Program};
-use crate::records::{to_bytes, to_text};
 use crate::shorten::smallest;
 use crate::{astray, reader, stated, streams};
+use front::program::{Compiled, Program};
+use reckon::stream::lines;
+use records::{to_bytes, to_text};
 use std::ops::Range;
-use std::path::Path;
+use std::path::{Path, PathBuf};
 use std::sync::atomic::{AtomicUsize, Ordering};
 use std::sync::Mutex;
 use std::time::{Duration, Instant};
@@ -92,7 +92,7 @@ fn tell(program: &dyn Program, name: &str, which: &str, stream: &[u8]) -> ! {
 
 // The stored streams: what is reckoned must be what stands in their .out, and the program must print it too.
 fn stored() -> Vec<(String, Vec<u8>)> {
-    let folder = Path::new(env!("CARGO_MANIFEST_DIR")).join("../tests/streams");
+    let folder = Path::new(env!("CARGO_MANIFEST_DIR")).join("../../tests/streams");
     let files = std::fs::read_dir(&folder).unwrap_or_else(|why| panic!("{}: {why}", folder.display()));
     let mut all = Vec::new();
     for file in files.map(|file| file.expect("a file").path()) {
@@ -109,9 +109,20 @@ fn stored() -> Vec<(String, Vec<u8>)> {
     all
 }
 
+// The one that `rt check routes` writes, or another that the variable ROUTES names.
+fn compiled() -> Compiled {
+    let own = Path::new(env!("CARGO_MANIFEST_DIR")).join("../../target/bin/routes");
+    let file = std::env::var_os("ROUTES").map_or(own, PathBuf::from);
+    if !file.exists() {
+        println!("{} isn't there: `make program` proves and writes target/bin/routes", file.display());
+        std::process::exit(1);
+    }
+    Compiled::at(&file)
+}
+
 pub fn compare(from: u64) {
     let began = Instant::now();
-    let program = Compiled::found();
+    let program = compiled();
     let mut l = Listening::default();
     l.listed(&program, "the stored streams", stored());
     l.listed(&program, "streams whose lines are stated", stated::streams());
@@ -132,6 +143,7 @@ pub fn compare(from: u64) {
     println!("\nrefused with     {}", numbers.map(|number| format!("{number:>7}")).concat());
     println!("streams          {}", numbers.map(|number| format!("{:>7}", l.endings[number])).concat());
     assert!(numbers.iter().all(|number| l.endings[*number] > 0), "some refusal never came up");
+    reader::all_found();
     astray::all_found();
     println!("{} streams compared in {:.1} s: 0 differ", l.streams, began.elapsed().as_secs_f32());
 }

@@ -1,0 +1,70 @@
+#!/usr/bin/env python3
+"""Has networkx judge the product's trees: a calculation by other hands.
+
+    target/rust/release/compare networks | tests/others.py
+
+networkx finds the distances. From these alone follow the parent links that a fresh build and an update must choose and the
+first links that they lead to. It reads lines as rust/compare/src/others.rs prints them.
+"""
+import sys
+
+import networkx
+
+MARK, NONE = 16_777_215, 65_535
+
+
+def distances(nodes, root, ends, costs):
+    """By networkx. Parallel links are parallel edges; a link of cost 0 is none."""
+    graph = networkx.MultiDiGraph()
+    graph.add_nodes_from(range(nodes))
+    graph.add_weighted_edges_from((s, e, cost) for (s, e), cost in zip(ends, costs) if cost != 0)
+    return networkx.single_source_dijkstra_path_length(graph, root)
+
+
+def due_tree(nodes, root, ends, costs, old_parents):
+    """A row for each node: its distance, its old parent link where that is tight and else its smallest, its first link."""
+    dist = distances(nodes, root, ends, costs)
+    tight = {v: [] for v in range(nodes)}
+    for k, ((s, e), cost) in enumerate(zip(ends, costs)):
+        if cost != 0 and s in dist and dist[s] + cost == dist[e]:
+            tight[e].append(k)
+    rows = {root: (0, NONE, NONE)}
+    for v in sorted(dist, key=dist.get):
+        if v != root:
+            parent = old_parents[v] if old_parents[v] in tight[v] else tight[v][0]
+            start = ends[parent][0]
+            rows[v] = (dist[v], parent, parent if start == root else rows[start][2])
+    return [rows.get(v, (MARK, NONE, NONE)) for v in range(nodes)]
+
+
+def triples(numbers):
+    return list(zip(numbers[::3], numbers[1::3], numbers[2::3]))
+
+
+def main():
+    networks = trees = 0
+    for line in sys.stdin:
+        word, *numbers = line.split()
+        numbers = [int(number) for number in numbers]
+        if word == "network":
+            nodes, root = numbers
+            parents = [NONE] * nodes
+            networks += 1
+        elif word == "links":
+            ends = list(zip(numbers[::2], numbers[1::2]))
+        elif word == "costs":
+            costs = numbers
+        else:
+            due, told = due_tree(nodes, root, ends, costs, parents), triples(numbers)
+            if told != due:
+                node = next(v for v in range(nodes) if told[v] != due[v])
+                sys.exit(f"DIFFERS in network {networks - 1}, node {node}: {told[node]}, due is {due[node]}")
+            parents = [row[1] for row in told]
+            trees += 1
+    if networks == 0 or trees < networks:
+        sys.exit("no networks came")
+    print(f"{networks} networks, {trees} trees judged by networkx {networkx.__version__}: none differ")
+
+
+if __name__ == "__main__":
+    main()
