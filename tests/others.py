@@ -43,6 +43,7 @@ def triples(numbers):
 
 def main():
     networks = trees = 0
+    word = None
     for line in sys.stdin:
         word, *numbers = line.split()
         numbers = [int(number) for number in numbers]
@@ -54,15 +55,15 @@ def main():
             ends = list(zip(numbers[::2], numbers[1::2]))
         elif word == "costs":
             costs = numbers
-        else:
+        elif word == "tree":
             due, told = due_tree(nodes, root, ends, costs, parents), triples(numbers)
             if told != due:
                 node = next(v for v in range(nodes) if told[v] != due[v])
                 sys.exit(f"DIFFERS in network {networks - 1}, node {node}: {told[node]}, due is {due[node]}")
             parents = [row[1] for row in told]
             trees += 1
-    if networks == 0 or trees < networks:
-        sys.exit("no networks came")
+    if word != "end" or trees == 0:
+        sys.exit("the networks were cut short")
     print(f"{networks} networks, {trees} trees judged by networkx {networkx.__version__}: none differ")
 
 

@@ -63,7 +63,6 @@ N 2 9 1 0
 call 0 '1 batch, 6 rows: none differ
 ' '' --check "$my"
 
-target/rust/release/front look "$my" || wrong=$((wrong + 1))
 printf '\001\000\001\000\000\005\000\000' >"$room/my.stream"
 call 0 'N 0 0 - -
 ' '' "$room/my.stream"

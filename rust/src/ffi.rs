@@ -2,8 +2,7 @@
 //!
 //! Each call is sound for any numbers in the memory lent: the functions judge their input themselves, read and write
 //! only within the lengths given, and keep no pointer. A reference is never null, is aligned, and a mutable one shares
-//! no memory with another, which is all that they ask. [`crate::lent`] has the same over a [`crate::Network`] and a
-//! [`crate::Tree`].
+//! no memory with another, which is all that they ask.
 #![allow(unsafe_code)]
 
 use crate::{Refusal, NODES};

@@ -36,6 +36,7 @@ compile_error!(
 #[doc(hidden)]
 #[rustfmt::skip]
 pub mod ffi;
+mod jobs;
 #[doc(hidden)]
 pub mod lent;
 mod network;

@@ -1,5 +1,3 @@
-use crate::{lent, Refusal};
-
 /// A node count, a root and the links, which stand in three columns; a link's number is its place. Any numbers may stand
 /// in it: every job judges it.
 ///
@@ -43,10 +41,5 @@ impl Network {
             net.costs.push(cost);
         }
         net
-    }
-
-    /// Judges the table of links: refusals 1 to 5.
-    pub fn judge(&self) -> Result<(), Refusal> {
-        lent::judge_links(self).refusal()
     }
 }

@@ -1,5 +1,4 @@
-use crate::ffi::Batch;
-use crate::{lent, Change, Network, Refusal, NODES, NO_LINK, ROWS, UNREACHED};
+use crate::{NODES, NO_LINK, UNREACHED};
 use std::fmt;
 
 /// A tree of shortest routes: for each of 256 nodes a distance, a parent link and a first link. Any numbers may stand in
@@ -18,90 +17,6 @@ impl Tree {
     /// Every node unreached, and no links.
     pub fn empty() -> Tree {
         Tree { distances: [UNREACHED; NODES], parents: [NO_LINK; NODES], firsts: [NO_LINK; NODES] }
-    }
-
-    /// A fresh tree: every reached node but the root takes its tight link of smallest number. Refusals 1 to 5.
-    ///
-    /// ```
-    /// use routes::{Network, Refusal, Tree};
-    ///
-    /// let tree = Tree::build(&Network::with_links(3, 0, [(0, 1, 4), (0, 1, 4)]))?;
-    /// assert_eq!((tree.distance(1), tree.parent(1), tree.first(1)), (Some(4), Some(0), Some(0)));
-    /// assert_eq!(tree.distance(2), None);
-    /// assert_eq!(Tree::build(&Network::with_links(0, 0, [])), Err(Refusal::WrongNodeCount));
-    /// # Ok::<(), Refusal>(())
-    /// ```
-    pub fn build(net: &Network) -> Result<Tree, Refusal> {
-        let mut tree = Tree::empty();
-        lent::build(net, &mut tree).refusal()?;
-        Ok(tree)
-    }
-
-    /// Whether the tree fits the network: refusals 1 to 6.
-    ///
-    /// ```
-    /// use routes::{Network, Refusal, Tree};
-    ///
-    /// let net = Network::with_links(2, 0, [(0, 1, 4)]);
-    /// let mut tree = Tree::build(&net)?;
-    /// assert_eq!(tree.judge(&net), Ok(()));
-    /// tree.distances[1] = 3;
-    /// assert_eq!(tree.judge(&net), Err(Refusal::TreeUnfit { node: 1 }));
-    /// # Ok::<(), Refusal>(())
-    /// ```
-    pub fn judge(&self, net: &Network) -> Result<(), Refusal> {
-        lent::judge_tree(net, self).refusal()
-    }
-
-    /// Writes a batch's costs into the network, brings the tree up to them, and hands back the changed nodes, in rising
-    /// order. All rows take effect together. A node whose parent link is still tight keeps it. Refusals 1 to 9, which
-    /// leave the network and the tree as they were. What is handed back is all that is allocated.
-    ///
-    /// ```
-    /// use routes::{Change, Network, Refusal, Tree};
-    ///
-    /// let mut net = Network::with_links(2, 0, [(0, 1, 4), (0, 1, 6)]);
-    /// let mut tree = Tree::build(&net)?;
-    /// assert_eq!(tree.update(&mut net, &[Change { link: 0, cost: 0 }])?, [1]);
-    /// assert_eq!(tree.parent(1), Some(1));
-    ///
-    /// let twice = [Change { link: 1, cost: 2 }, Change { link: 1, cost: 3 }];
-    /// assert_eq!(tree.update(&mut net, &twice), Err(Refusal::RowNamesLinkAgain { row: 1 }));
-    /// assert_eq!(net.costs, [0, 6]);
-    /// # Ok::<(), Refusal>(())
-    /// ```
-    pub fn update(&mut self, net: &mut Network, batch: &[Change]) -> Result<Vec<u16>, Refusal> {
-        // As columns. One row over the limit is enough to tell that there are too many.
-        let (mut links, mut costs) = ([0; ROWS + 1], [0; ROWS + 1]);
-        let rows = batch.len().min(ROWS + 1);
-        for (place, row) in batch[..rows].iter().enumerate() {
-            (links[place], costs[place]) = (row.link, row.cost);
-        }
-        let mut list = [0; NODES];
-        let told = lent::update(net, self, Batch { links: &links[..rows], costs: &costs[..rows] }, &mut list);
-        told.refusal()?;
-        Ok(list[..told.count].to_vec())
-    }
-
-    /// The links from the root to a node, in travel order. Refusals 1 to 6, 10 and 11. What is handed back is all that is
-    /// allocated.
-    ///
-    /// ```
-    /// use routes::{Network, Refusal, Tree};
-    ///
-    /// let net = Network::with_links(4, 0, [(0, 1, 4), (1, 2, 2)]);
-    /// let tree = Tree::build(&net)?;
-    /// assert_eq!(tree.path(&net, 2)?, [0, 1]);
-    /// assert_eq!(tree.path(&net, 0)?, []);
-    /// assert_eq!(tree.path(&net, 3), Err(Refusal::AskedUnreached));
-    /// assert_eq!(tree.path(&net, 4), Err(Refusal::AskedNoNode));
-    /// # Ok::<(), Refusal>(())
-    /// ```
-    pub fn path(&self, net: &Network, node: usize) -> Result<Vec<u16>, Refusal> {
-        let mut list = [0; NODES];
-        let told = lent::path(net, self, node, &mut list);
-        told.refusal()?;
-        Ok(list[..told.count].to_vec())
     }
 
     /// A node's distance from the root, if the tree reaches it.

@@ -185,7 +185,8 @@ fn fixed(c: &mut Comparison) {
     c.family("the sizes' ends", sizes);
 }
 
-fn seeded(c: &mut Comparison, from: u64) {
+// Batches in turn, from fresh trees and from others that fit.
+fn runs(c: &mut Comparison, from: u64) {
     for (shape, name) in SHAPES.iter().enumerate() {
         let many = [20_000, 1_000, 600, 600, 400, 8_000, 3_000, 120][shape];
         c.family(&format!("{name}: runs of 8 batches"), |c| {
@@ -205,6 +206,9 @@ fn seeded(c: &mut Comparison, from: u64) {
             c.one(&Archive, "from any tree that fits", seed, &make::from_another(seed, shape, 4));
         }
     });
+}
+
+fn wrong_input(c: &mut Comparison, from: u64) {
     c.family("each single entry damaged", |c| every_damage(c, from));
     c.family("several entries damaged", |c| {
         for seed in from..from + 30_000 {
@@ -219,19 +223,22 @@ fn seeded(c: &mut Comparison, from: u64) {
     c.family("malformed tables, batches and asks", |c| {
         (from..from + 60_000).for_each(|seed| c.one(&Archive, "malformed", seed, &make::malformed(seed)))
     });
-    c.family("the safe interface", |c| {
-        for seed in from + 2_000_000..from + 2_004_000 {
-            c.one(&Safe, "the safe interface, runs", seed, &make::run(seed, [0, 5, 6][seed as usize % 3], 8, 4));
-            c.one(&Safe, "the safe interface, damaged", seed, &make::damaged(seed, 0));
-            c.one(&Safe, "the safe interface, malformed", seed, &make::malformed(seed));
-        }
-    });
+}
+
+fn safe_interface(c: &mut Comparison, from: u64) {
+    for seed in from..from + 4_000 {
+        c.one(&Safe, "the safe interface, runs", seed, &make::run(seed, [0, 5, 6][seed as usize % 3], 8, 4));
+        c.one(&Safe, "the safe interface, damaged", seed, &make::damaged(seed, 0));
+        c.one(&Safe, "the safe interface, malformed", seed, &make::malformed(seed));
+    }
 }
 
 fn jobs(from: u64) {
     let mut c = Comparison { tally: Tally::default(), cases: 0, began: Instant::now() };
     fixed(&mut c);
-    seeded(&mut c, from);
+    runs(&mut c, from);
+    wrong_input(&mut c, from);
+    c.family("the safe interface", |c| safe_interface(c, from + 2_000_000));
     println!("\ncalls by answer {}", (0..13).map(|n| format!("{n:>9}")).collect::<String>());
     for ((job, _), counts) in JOBS.iter().zip(c.tally) {
         println!("{job:<16}{}", counts.map(|n| format!("{n:>9}")).concat());

@@ -2,6 +2,7 @@
 //
 // A network is a line `network NODES ROOT` and a line `links` with the start and the end of each. Then, for the fresh build
 // and for each batch, a line `costs` and a line `tree` with the distance, the parent link and the first link of each node.
+// The last line is `end`.
 use crate::case::Case;
 use crate::make;
 use crate::product::{rows_mut, Archive, Product};
@@ -47,5 +48,6 @@ pub fn print(from: u64) -> Result<()> {
         let shape = [0, 5, 0, 6, 0, 5, 0, 6, 0, 5, 0, 1, 2, 3, 4, 6][seed as usize % 16];
         network(&mut out, &make::run(seed, shape, 3, 0))?;
     }
+    writeln!(out, "end")?;
     out.flush()
 }

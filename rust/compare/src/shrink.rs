@@ -56,54 +56,59 @@ fn parts(len: usize) -> impl Iterator<Item = (usize, usize)> {
 
 type Step = Box<dyn Fn(&Case) -> Case>;
 
-// Everything that may be left out or made smaller, the large parts first.
-fn smaller(case: &Case) -> Vec<Step> {
-    let mut steps: Vec<Step> = Vec::new();
-    let mut step = |f: Step| steps.push(f);
-    macro_rules! leaving {
-        ($list:ident) => {
-            for (from, count) in parts(case.$list.len()) {
-                step(Box::new(move |case| {
-                    let mut small = case.clone();
-                    small.$list.drain(from..from + count);
-                    small
-                }));
-            }
-        };
-    }
-    leaving!(batches);
-    leaving!(asks);
-    leaving!(edits);
-    for (from, count) in parts(case.starts.len()) {
-        step(Box::new(move |case| without_links(case, from, count)));
-    }
+// A step that makes one thing smaller.
+fn step(change: impl Fn(&mut Case) + 'static) -> Step {
+    Box::new(move |case| {
+        let mut small = case.clone();
+        change(&mut small);
+        small
+    })
+}
+
+// Parts of what is done with the table.
+fn less_done(case: &Case) -> Vec<Step> {
+    let mut steps = Vec::new();
+    steps.extend(
+        parts(case.batches.len()).map(|(at, count)| step(move |case| drop(case.batches.drain(at..at + count)))),
+    );
+    steps.extend(parts(case.asks.len()).map(|(at, count)| step(move |case| drop(case.asks.drain(at..at + count)))));
+    steps.extend(parts(case.edits.len()).map(|(at, count)| step(move |case| drop(case.edits.drain(at..at + count)))));
+    steps
+}
+
+fn fewer_rows(case: &Case) -> Vec<Step> {
+    let mut steps = Vec::new();
     for (b, batch) in case.batches.iter().enumerate() {
         for (from, count) in parts(batch.links.len().min(batch.costs.len())) {
-            step(Box::new(move |case| {
-                let mut small = case.clone();
-                small.batches[b].links.drain(from..from + count);
-                small.batches[b].costs.drain(from..from + count);
-                small
+            steps.push(step(move |case| {
+                case.batches[b].links.drain(from..from + count);
+                case.batches[b].costs.drain(from..from + count);
             }));
         }
     }
-    for nodes in [case.nodes / 2, case.nodes.wrapping_sub(1)] {
-        if nodes > 0 && nodes < case.nodes {
-            step(Box::new(move |case| Case { nodes, ..case.clone() }));
-        }
-    }
+    steps
+}
+
+fn fewer_nodes(case: &Case) -> Vec<Step> {
+    let counts = [case.nodes / 2, case.nodes.wrapping_sub(1)];
+    let counts = counts.into_iter().filter(|nodes| (1..case.nodes).contains(nodes));
+    let mut steps: Vec<Step> = counts.map(|nodes| step(move |case| case.nodes = nodes)).collect();
     for node in (0..case.nodes.min(256)).filter(|node| *node != case.root) {
-        step(Box::new(move |case| without_node(case, node)));
+        steps.push(Box::new(move |case| without_node(case, node)));
     }
-    for link in 0..case.costs.len() {
-        if case.costs[link] > 1 {
-            step(Box::new(move |case| {
-                let mut small = case.clone();
-                small.costs[link] /= 2;
-                small
-            }));
-        }
+    steps
+}
+
+// Everything that may be left out or made smaller, the large parts first.
+fn smaller(case: &Case) -> Vec<Step> {
+    let mut steps = less_done(case);
+    for (from, count) in parts(case.starts.len()) {
+        steps.push(Box::new(move |case| without_links(case, from, count)));
     }
+    steps.extend(fewer_rows(case));
+    steps.extend(fewer_nodes(case));
+    let dear = (0..case.costs.len()).filter(|link| case.costs[*link] > 1);
+    steps.extend(dear.map(|link| step(move |case| case.costs[link] /= 2)));
     steps
 }
 
