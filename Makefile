@@ -119,8 +119,9 @@ bench: room program
 	@cd bench && cargo build --offline --quiet --release
 	@target/rust/release/bench
 
-# One round of all that is measured, the peers aside: product and plain programs agree, and nothing is written.
+# One round of all that is measured: product, plain programs and the peers that are installed agree, and nothing is written.
 bench-once: archive program
+	@bench/peers/build.sh
 	@cd rust && cargo build --offline --quiet --release -p compare --bin room
 	@cd bench && cargo build --offline --quiet --release
 	@$(call quietly,target/rust/release/bench once)

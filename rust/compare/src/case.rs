@@ -1,5 +1,5 @@
 // A case, and what it means for the product to agree on it.
-use crate::guard::{Guarded, GuardedTree};
+use crate::guard::{listed, Guarded, GuardedTree};
 use crate::product::{Answer, Product};
 use reckon::rules::{self, Table, Told, Tree, Updated, NODES};
 use routes::ffi::Batch as Columns;
@@ -103,23 +103,23 @@ impl Checker<'_> {
     fn update(&mut self, product: &dyn Product, t: &Table, tree: &Tree, batch: &Batch) -> Result<Updated, String> {
         let rows: Vec<(u16, u16)> = batch.links.iter().copied().zip(batch.costs.iter().copied()).collect();
         let due = rules::update(t, tree, &rows, batch.list);
-        let (mut column, mut list) = (Guarded::of(t.costs), Guarded::list(&[], batch.list));
+        let (mut column, mut list) = (Guarded::of(t.costs), Guarded::of(&listed(&[], batch.list)));
         let mut moved = GuardedTree::of(tree);
         let columns = Columns { links: &batch.links, costs: &batch.costs };
         let got = product.update(t, column.lent(), columns, moved.lent(), list.lent());
         self.told(UPDATE, got, (due.told, due.changed.len()))?;
         moved.is("update", &due.tree)?;
-        column.is("update", "the cost column", &Guarded::of(&due.costs))?;
-        list.is("update", "the list", &Guarded::list(&due.changed, batch.list))?;
+        column.is("update", "the cost column", &due.costs)?;
+        list.is("update", "the list", &listed(&due.changed, batch.list))?;
         Ok(due)
     }
 
     fn path(&mut self, product: &dyn Product, t: &Table, tree: &Tree, ask: &Ask) -> Result<(), String> {
-        let mut list = Guarded::list(&[], ask.list);
+        let mut list = Guarded::of(&listed(&[], ask.list));
         let got = product.path(t, tree, ask.node, list.lent());
         let (due, links) = rules::path(t, tree, ask.node, ask.list);
         self.told(PATH, got, (due, links.len()))?;
-        list.is("path", "the list", &Guarded::list(&links, ask.list))
+        list.is("path", "the list", &listed(&links, ask.list))
     }
 }
 

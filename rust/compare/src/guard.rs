@@ -25,13 +25,6 @@ impl<T: Entry> Guarded<T> {
         Guarded([&guard, inner, &guard].concat())
     }
 
-    // So many places with these at the front, the others untouched.
-    pub fn list(front: &[T], places: usize) -> Guarded<T> {
-        let mut inner = vec![T::UNTOUCHED; places];
-        inner[..front.len()].copy_from_slice(front);
-        Guarded::of(&inner)
-    }
-
     pub fn lent(&mut self) -> &mut [T] {
         let behind = self.0.len() - GUARD;
         &mut self.0[GUARD..behind]
@@ -41,16 +34,26 @@ impl<T: Entry> Guarded<T> {
         self.lent().try_into().expect("a tree's array has 256 places")
     }
 
-    // It is what is due, guards and all; or where it isn't.
-    pub fn is(&self, job: &str, what: &str, due: &Guarded<T>) -> Result<(), String> {
-        match (0..self.0.len()).find(|i| self.0[*i] != due.0[*i]) {
-            None => Ok(()),
-            Some(i) => {
-                let place = i as isize - GUARD as isize;
-                Err(format!("{job}: {what} has {} at place {place}, due is {}", self.0[i], due.0[i]))
-            }
+    // It is what is due, and the guards are as they were; or the place where it isn't so.
+    pub fn is(&self, job: &str, what: &str, due: &[T]) -> Result<(), String> {
+        let (before, rest) = self.0.split_at(GUARD);
+        let (inner, behind) = rest.split_at(rest.len() - GUARD);
+        let guard = [T::UNTOUCHED; GUARD];
+        if before == guard && inner == due && behind == guard {
+            return Ok(());
         }
+        let due = Guarded::of(due).0;
+        let at = (0..due.len()).find(|at| self.0[*at] != due[*at]).expect("they differ somewhere");
+        let place = at as isize - GUARD as isize;
+        Err(format!("{job}: {what} has {} at place {place}, due is {}", self.0[at], due[at]))
     }
+}
+
+// What a list of so many places holds once these stand at its front.
+pub fn listed(front: &[u16], places: usize) -> Vec<u16> {
+    let mut list = vec![u16::UNTOUCHED; places];
+    list[..front.len()].copy_from_slice(front);
+    list
 }
 
 pub struct GuardedTree {
@@ -73,7 +76,6 @@ impl GuardedTree {
     }
 
     pub fn is(&self, job: &str, due: &Tree) -> Result<(), String> {
-        let due = GuardedTree::of(due);
         self.dist.is(job, "the distances", &due.dist)?;
         self.parent.is(job, "the parent links", &due.parent)?;
         self.first.is(job, "the first links", &due.first)
