@@ -107,7 +107,7 @@ impl Asking<'_> {
         self.table.take().map_or(Ok(()), |place| self.rows(place))
     }
 
-    // Every node's row as it stands now, behind the record at a place.
+    // Every node's row as it stands now, behind the record at a place: as many at once as the stream has room for.
     fn rows(&mut self, place: usize) -> Result<(), String> {
         let due = self.run.rows();
         let room = (MOST_BYTES - self.records.len()) / 3;
@@ -115,26 +115,30 @@ impl Asking<'_> {
             self.agreed.unasked += due.len();
             return Ok(());
         }
-        let nodes: Vec<u16> = (0..due.len() as u16).collect();
-        for (nodes, due) in nodes.chunks(room).zip(due.chunks(room)) {
-            let asks = nodes.iter().flat_map(|node| Record::Ask { node: *node }.bytes());
-            let stream: Vec<u8> = self.records.iter().copied().chain(asks).collect();
-            let printed = self.program.run(&stream);
-            let Some(rows) = printed.strip_prefix(self.lines.as_str()) else {
-                return Err(format!(
-                    "{}: asked for every row then, routes prints other lines before",
-                    self.input.at(place)
-                ));
-            };
-            let mut rows = rows.split_inclusive('\n');
-            for due in due {
-                let row = rows.next();
-                if row != Some(due) {
-                    return Err(differs(self.input, place, row, due));
-                }
-            }
+        for (some, from) in due.chunks(room).zip((0..).step_by(room)) {
+            self.some_rows(place, from, some)?;
         }
         self.agreed.rows += due.len();
         Ok(())
+    }
+
+    // The rows of the nodes from one on.
+    fn some_rows(&self, place: usize, from: usize, due: &[String]) -> Result<(), String> {
+        let nodes = from as u16..(from + due.len()) as u16;
+        let asks = nodes.flat_map(|node| Record::Ask { node }.bytes());
+        let stream: Vec<u8> = self.records.iter().copied().chain(asks).collect();
+        let printed = self.program.run(&stream);
+        let Some(rows) = printed.strip_prefix(self.lines.as_str()) else {
+            let at = self.input.at(place);
+            return Err(format!("{at}: asked for every row then, routes prints other lines before"));
+        };
+        let mut rows = rows.split_inclusive('\n');
+        for due in due {
+            let row = rows.next();
+            if row != Some(due) {
+                return Err(differs(self.input, place, row, due));
+            }
+        }
+        rows.next().map_or(Ok(()), |more| Err(differs(self.input, place, Some(more), "nothing more")))
     }
 }
