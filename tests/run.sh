@@ -91,5 +91,15 @@ for way in '' --check; do
 " ${way:+"$way"} "$my"
 done
 
+# The program by itself: a read that fails is the stream's end, a write that fails ends it, and its status is always 0.
+if ! target/bin/routes <"$room" >"$room/out" || [ "$(cat "$room/out")" != "R 23 0" ]; then
+    wrong=$((wrong + 1))
+    echo "a read that fails isn't taken for the end"
+fi
+if ! target/bin/routes <"$room/my.stream" >/dev/full; then
+    wrong=$((wrong + 1))
+    echo "a write that fails ends with another status than 0"
+fi
+
 echo "$run calls of ./run, $wrong wrong"
 [ "$wrong" -eq 0 ]
