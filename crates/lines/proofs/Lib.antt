@@ -1,4 +1,2 @@
--- Theorems about specs/, and the lemmas that the functions' proofs share, in reading order.
+-- The lemmas that the functions' proofs share.
 pub mod Laws
-pub mod Decimal
-pub mod Samples

@@ -6,8 +6,8 @@ use lib.Dec.{ltb, eqb}
 use lib.ListN.{take}
 use Rattle.rules.specs.Tests.{pick}
 use Rattle.rules.specs.Columns.{noLink}
-use Rattle.session.specs.declared.Out.{Out}
-use Rattle.session.specs.declared.Out.the-variants.{Nothing, Row, Changed, Refused}
+use Rattle.state.specs.declared.Out.{Out}
+use Rattle.state.specs.declared.Out.the-variants.{Nothing, Row, Changed, Refused}
 
 -- ASCII's digit, and the other bytes of a line
 abbrev pub digit : ℕ → ℕ

@@ -5,7 +5,7 @@ ghost use Prim.Native.Nat.{_+_, _≤_};
 ghost use lib.ListN.{length};
 ghost use Rattle.lines.specs.Lines.{space, decimal, linkText, rowLine, changedLine, refusalLine, lineOf, entriesIn, lineRoom};
 ghost use Rattle.lines.specs.Putting.{Room, Put};
-use session::Out;
+use state::Out;
 
 // Room for every line, which `put_line` asks.
 pub const LINE_ROOM: usize = 2_048;

@@ -12,7 +12,7 @@ ghost use Rattle.rules.specs.Tests.{pick};
 use rules::Answer;
 
 // The start or the end is no node, or the link leads from a node to itself.
-fn wrong_ends(nodes: usize, start: u16, end: u16) -> bool
+pub fn wrong_ends(nodes: usize, start: u16, end: u16) -> bool
     ensures { λ r. ⌜ r ≡ wrongEnds nodes start end ⌝ }
 {
     nodes <= start as usize || nodes <= end as usize || start == end

@@ -7,9 +7,9 @@ use denote.Ref.{RefT, now}
 use Rattle.stream.specs.declared.Item.{Item}
 use Rattle.stream.specs.declared.Read.{Read}
 use Rattle.stream.specs.Records.{isRecord}
-use Rattle.stream.specs.Splitting.{Splits, stops, reads, split}
-use Rattle.stream.proofs.Stands.{standing}
-use Rattle.stream.proofs.Splits.{stands-still, splits}
+use Rattle.splits.specs.Splitting.{Splits, stops, reads, split}
+use Rattle.splits.proofs.Stands.{standing}
+use Rattle.splits.proofs.Splits.{stands-still, splits}
 use Rattle.reader.specs.declared.Reader.{Reader}
 use Rattle.reader.specs.Reading.{atStart, movedTo, handed, stepOf, Reads, ends, gives}
 

@@ -1,6 +1,6 @@
 // Reads a record stream from standard input and prints a line for what each record tells. What is printed is worked out by
 // `turns::fill`, text after text; here it is only read and written (`Writes`, in the specs of `turns`, is what `run` does).
-use session::State;
+use state::State;
 
 const STDIN: i32 = 0;
 

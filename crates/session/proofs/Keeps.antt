@@ -2,13 +2,12 @@
 use mathlib.Core.Path.{_≡_, refl, sym, ap, _∙_}
 use mathlib.Core.Bool.{Bool, true, false, not}
 use mathlib.Core.List.{List, [], _∷_, _++_}
-use Prim.Native.Nat.{ℕ, zero, suc, _≤_, _<_}
+use Prim.Native.Nat.{ℕ, zero, suc, _+_, _≤_, _<_}
 use native.Mathlib.Omega.{arith}
-use native.Mathlib.Decide.{decLt}
 use lib.Dec.{ltb}
 use lib.ListN.{length, set, take, length-append, length-take, length-drop, length-set}
-use lib.Seq.{length-take-le, length-front, take-set-le}
-use borrow.Author.Tests.{le-ltb}
+use lib.Seq.{length-take-le, length-front}
+use borrow.Author.Tests.{le-ltb, ltb-false}
 use Rattle.rules.specs.Tree.{Rows, Fits}
 use Rattle.rules.specs.Tests.{pick, firstBelow, breaks}
 use Rattle.rules.specs.Columns.{Table, Tree, table, netOf, rowsOf, after, mostLinks, mostRows, mostNodes}
@@ -17,22 +16,27 @@ use Rattle.rules.specs.Jobs.{differs, changedBelow}
 use Rattle.rules.specs.declared.Change.{Change as CostChange}
 use Rattle.rules.proofs.Logic.{First, first-is, T-true, T-false, true-false}
 use Rattle.rules.proofs.Check.{breaks-rule}
-use Rattle.rules.proofs.Judged.{then-first, then-second, not-refused}
+use Rattle.rules.proofs.Judged.{then-first, then-second, when-not, links-proper}
 use Rattle.rules.proofs.OneOutcome.{tree-links, length-applied}
 use Rattle.rules.proofs.Accepted.{built-good, update-accept, update-good}
 use Rattle.batch.specs.Rows.{rowsOfColumns}
+use Rattle.batch.proofs.Laws.{links-fewer}
 use Rattle.tree.specs.Value.{valueOf}
-use Rattle.session.specs.declared.Phase.{Phase}
-use Rattle.session.specs.declared.Phase.the-variants.{Unread, Linking, Routing}
-use Rattle.session.specs.declared.State.{State}
-use Rattle.session.specs.declared.Done.{Done}
-use Rattle.session.specs.declared.Out.{Out}
-use Rattle.session.specs.declared.Out.the-variants.{Nothing}
 use Rattle.stream.specs.declared.Item.{Item}
 use Rattle.stream.specs.declared.Item.the-variants.{Network, Link, Change, Apply, Ask, End, UnknownKind, CutShort}
-use Rattle.session.specs.States.{refusing, asked, Columns, tableOf, waiting, oneMore, TableStands, Lent, TreeStands, networked, linked, changing, judgeWaiting, Begun, Applied}
-use Rattle.session.specs.Steps.{isUnread, isLinking, inOrder, Lists, lists, tableIn, treeIn, lentIn, Holds, unread, linking, routing, Ready, begins, stays, Steps, out-of-order, unknown, cut, ended, network, link, change, apply, ask}
-use Rattle.session.proofs.Laws.{entry-written, no-place, no-row}
+use Rattle.order.specs.declared.Phase.{Phase}
+use Rattle.order.specs.declared.Phase.the-variants.{Unread, Linking, Routing}
+use Rattle.order.specs.Order.{isUnread, isLinking, inOrder}
+use Rattle.enter.specs.More.{oneMore, judgeWaiting}
+use Rattle.enter.proofs.Entries.{entry-length, entry-written}
+use Rattle.state.specs.declared.State.{State}
+use Rattle.state.specs.declared.Done.{Done}
+use Rattle.state.specs.declared.Out.{Out}
+use Rattle.state.specs.declared.Out.the-variants.{Nothing}
+use Rattle.state.specs.States.{tableOf, waiting, refusing, networked, linked, changing, asked}
+use Rattle.session.specs.Holding.{Columns, TableStands, Lent, TreeStands, Lists, lists, tableIn, treeIn, lentIn, Holds, unread, linking, routing}
+use Rattle.session.specs.Steps.{linkVerdict, linkLists, changeVerdict, changeLists, Begun, Applied, Ready, begins, stays, Steps, out-of-order, unknown, cut, ended, network, link, change, apply, ask}
+use Rattle.session.specs.Parts.{LinkTaken, RowTaken}
 
 -- ---- phases
 
@@ -118,53 +122,36 @@ network-keeps h p nodes root (refused number value) e = h
 
 -- ---- LINK
 
-module _ {s : State} {starts ends costs : List ℕ} (t : TableStands s starts ends costs) (start end cost : ℕ) where
-  set-columns : Columns (set starts (s .links) start) (set ends (s .links) end) (set costs (s .links) cost)
-  set-columns = record {
-    starts-long = length-set starts (s .links) start ∙ t .columns .starts-long;
-    ends-long = length-set ends (s .links) end ∙ t .columns .ends-long;
-    costs-long = length-set costs (s .links) cost ∙ t .columns .costs-long;
-  }
-
-  link-stands : (v : Verdict)
-      → judgeLinks (table (s .nodes) (s .root) (oneMore (s .links) starts start) (oneMore (s .links) ends end) (oneMore (s .links) costs cost)) ≡ v
-      → TableStands (linked v s .state) (set starts (s .links) start) (set ends (s .links) end) (set costs (s .links) cost)
-  link-stands accepted e = at (decLt (s .links) mostLinks)
-    where
-      at : Dec (s .links < mostLinks) → TableStands (linked accepted s .state) (set starts (s .links) start) (set ends (s .links) end) (set costs (s .links) cost)
-      at (yes l) = record {
-        columns = set-columns;
+module _ (s : State) (k : Lists) (t : tableIn s k) (start end cost : ℕ) where
+  link-stands : (v : Verdict) → linkVerdict s k start end cost ≡ v → tableIn (linked v s .state) (linkLists v s k start end cost)
+  link-stands accepted e =
+      let longer = links-proper _ e .few-links in
+      let room : s .links < mostLinks = omega (arith, entry-length (s .links) (k .starts) start (omega (arith, t .few-links, t .columns .starts-long))) in
+      record {
+        columns = record {
+          starts-long = length-set (k .starts) (s .links) start ∙ t .columns .starts-long;
+          ends-long = length-set (k .ends) (s .links) end ∙ t .columns .ends-long;
+          costs-long = length-set (k .costs) (s .links) cost ∙ t .columns .costs-long;
+        };
         few-links = omega arith;
         judged = rw (
-          entry-written starts (s .links) start (omega (arith, t .columns .starts-long)),
-          entry-written ends (s .links) end (omega (arith, t .columns .ends-long)),
-          entry-written costs (s .links) cost (omega (arith, t .columns .costs-long)),
+          entry-written (k .starts) (s .links) start (omega (arith, t .columns .starts-long)),
+          entry-written (k .ends) (s .links) end (omega (arith, t .columns .ends-long)),
+          entry-written (k .costs) (s .links) cost (omega (arith, t .columns .costs-long)),
         ) e;
         no-rows = t .no-rows;
       }
-      at (no l) = absurd (not-refused (no-place t start end cost (omega arith) ∙ e))
-  link-stands (refused number value) e = record {
-    columns = set-columns;
-    few-links = t .few-links;
-    judged = rw (
-      take-set-le (s .links) starts (s .links) start (omega arith),
-      take-set-le (s .links) ends (s .links) end (omega arith),
-      take-set-le (s .links) costs (s .links) cost (omega arith),
-    ) (t .judged);
-    no-rows = t .no-rows;
-  }
+  link-stands (refused number value) e = t
 
 pub linked-phase : (v : Verdict) (s : State) → linked v s .state .phase ≡ s .phase
 linked-phase accepted s = refl
 linked-phase (refused number value) s = refl
 
 pub link-keeps : {s : State} {k : Lists} → Holds s k → s .phase ≡ Linking → (start end cost : ℕ)
-    → Holds
-    (linked (judgeLinks (table (s .nodes) (s .root) (oneMore (s .links) (k .starts) start) (oneMore (s .links) (k .ends) end) (oneMore (s .links) (k .costs) cost))) s .state)
-    (lists (set (k .starts) (s .links) start) (set (k .ends) (s .links) end) (set (k .costs) (s .links) cost) (k .changed) (k .newcosts) (k .list))
+    → Holds (linked (linkVerdict s k start end cost) s .state) (linkLists (linkVerdict s k start end cost) s k start end cost)
 link-keeps {s} {k} h p start end cost =
-    let v = judgeLinks (table (s .nodes) (s .root) (oneMore (s .links) (k .starts) start) (oneMore (s .links) (k .ends) end) (oneMore (s .links) (k .costs) cost)) in
-    linking (linked-phase v s ∙ p) (link-stands (table-of h p) start end cost v refl) (lent-of h)
+    let v = linkVerdict s k start end cost in
+    linking (linked-phase v s ∙ p) (link-stands s k (table-of h p) start end cost v refl) (lent-of h)
 
 -- ---- the first record after the LINKs
 
@@ -194,55 +181,50 @@ met-stands h (stays p) = tree-of h p
 
 -- ---- CHANGE
 
-module _ {s : State} {starts ends costs changed newcosts list : List ℕ} (t : TreeStands s starts ends costs changed newcosts) (w : Lent changed newcosts list) (link cost : ℕ) where
-  set-lent : Lent (set changed (s .rows) link) (set newcosts (s .rows) cost) list
-  set-lent = record {
-    changed-long = length-set changed (s .rows) link ∙ w .changed-long;
-    newcosts-long = length-set newcosts (s .rows) cost ∙ w .newcosts-long;
-    list-long = w .list-long;
-  }
+module _ (s : State) (k : Lists) (t : treeIn s k) (w : lentIn k) (named cost : ℕ) where
+  abbrev longer : List CostChange
+  longer = rowsOfColumns (oneMore (take (s .rows) (k .changed)) named) (oneMore (take (s .rows) (k .newcosts)) cost)
 
-  change-stands : (v : Verdict)
-      → judgeWaiting (tableOf s starts ends costs) (rowsOfColumns (oneMore (s .rows) changed link) (oneMore (s .rows) newcosts cost)) ≡ v
-      → TreeStands (changing v s .state) starts ends costs (set changed (s .rows) link) (set newcosts (s .rows) cost)
-  change-stands accepted e = at (decLt (s .rows) mostRows)
-    where
-      at : Dec (s .rows < mostRows) → TreeStands (changing accepted s .state) starts ends costs (set changed (s .rows) link) (set newcosts (s .rows) cost)
-      at (yes l) = record {
+  one-longer : length longer ≡ s .rows + 1
+  one-longer =
+      let links = entry-length (s .rows) (k .changed) named (omega (arith, t .few-rows, w .changed-long)) in
+      let costs = entry-length (s .rows) (k .newcosts) cost (omega (arith, t .few-rows, w .newcosts-long)) in
+      links-fewer _ _ (omega arith) ∙ links
+
+  change-stands : (v : Verdict) → changeVerdict s k named cost ≡ v → treeIn (changing v s .state) (changeLists v s k named cost)
+  change-stands accepted e =
+      let few = ltb-false mostRows (length longer) (when-not (ltb mostRows (length longer)) 7 (then-first (when (ltb mostRows (length longer)) 7) _ e)) in
+      let room : s .rows < mostRows = omega (arith, one-longer, few) in
+      record {
         columns = t .columns;
         few-links = t .few-links;
         few-rows = omega arith;
         whole = t .whole;
         judged = t .judged;
         rows-judged = rw (
-          entry-written changed (s .rows) link (omega (arith, w .changed-long)),
-          entry-written newcosts (s .rows) cost (omega (arith, w .newcosts-long)),
-        ) (then-second (when (ltb mostRows (length (rowsOfColumns (oneMore (s .rows) changed link) (oneMore (s .rows) newcosts cost)))) 7) _ e);
+          entry-written (k .changed) (s .rows) named (omega (arith, w .changed-long)),
+          entry-written (k .newcosts) (s .rows) cost (omega (arith, w .newcosts-long)),
+        ) (then-second (when (ltb mostRows (length longer)) 7) _ e);
       }
-      at (no l) = absurd (not-refused (no-row t w link cost (omega arith) ∙ e))
-  change-stands (refused number value) e = record {
-    columns = t .columns;
-    few-links = t .few-links;
-    few-rows = t .few-rows;
-    whole = t .whole;
-    judged = t .judged;
-    rows-judged = rw (
-      take-set-le (s .rows) changed (s .rows) link (omega arith),
-      take-set-le (s .rows) newcosts (s .rows) cost (omega arith),
-    ) (t .rows-judged);
+  change-stands (refused number value) e = t
+
+  change-lent : (v : Verdict) → lentIn (changeLists v s k named cost)
+  change-lent accepted = record {
+    changed-long = length-set (k .changed) (s .rows) named ∙ w .changed-long;
+    newcosts-long = length-set (k .newcosts) (s .rows) cost ∙ w .newcosts-long;
+    list-long = w .list-long;
   }
+  change-lent (refused number value) = w
 
 changing-phase : (v : Verdict) (s : State) → changing v s .state .phase ≡ s .phase
 changing-phase accepted s = refl
 changing-phase (refused number value) s = refl
 
-pub change-keeps : {r : State} {k : Lists} → r .phase ≡ Routing → treeIn r k → lentIn k → (link cost : ℕ)
-    → Holds
-    (changing (judgeWaiting (tableOf r (k .starts) (k .ends) (k .costs)) (rowsOfColumns (oneMore (r .rows) (k .changed) link) (oneMore (r .rows) (k .newcosts) cost))) r .state)
-    (lists (k .starts) (k .ends) (k .costs) (set (k .changed) (r .rows) link) (set (k .newcosts) (r .rows) cost) (k .list))
+pub change-keeps : {r : State} {k : Lists} → r .phase ≡ Routing → treeIn r k → lentIn k → (named cost : ℕ)
+    → Holds (changing (changeVerdict r k named cost) r .state) (changeLists (changeVerdict r k named cost) r k named cost)
 change-keeps {r} {k} p t w named cost =
-    let v = judgeWaiting (tableOf r (k .starts) (k .ends) (k .costs)) (rowsOfColumns (oneMore (r .rows) (k .changed) named) (oneMore (r .rows) (k .newcosts) cost)) in
-    routing (changing-phase v r ∙ p) (change-stands t w named cost v refl) (set-lent t w named cost)
+    let v = changeVerdict r k named cost in
+    routing (changing-phase v r ∙ p) (change-stands r k t w named cost v refl) (change-lent r k t w named cost v)
 
 -- ---- APPLY
 
@@ -250,7 +232,7 @@ change-keeps {r} {k} p t w named cost =
 pub applied-table : {s : State} {starts ends costs changed newcosts list costs' list' : List ℕ} {d : Done} → Applied s starts ends costs changed newcosts list d costs' list'
     → tableOf (d .state) starts ends costs' ≡ after (tableOf s starts ends costs) (waiting s changed newcosts)
 applied-table {s} {starts} {ends} {costs' = costs'} a =
-    ap (λ (x : State). tableOf x starts ends costs') (a .kept)
+    ap (λ (x : Done). tableOf (x .state) starts ends costs') (a .kept)
     ∙ ap (λ (c : List ℕ). table (s .nodes) (s .root) (take (s .links) starts) (take (s .links) ends) c) (update-accept (a .updated) refl .costs)
 
 few-changed : (old new : Rows) (n : ℕ) → length (changedBelow old new n) ≤ n
@@ -283,8 +265,8 @@ module _ {s : State} {starts ends costs changed newcosts list costs' list' : Lis
       let before = tableOf s starts ends costs in
       let batch = waiting s changed newcosts in
       let same = applied-table a in
-      let links : d .state .links ≡ s .links = ap (λ (x : State). x .links) (a .kept) in
-      let rows : d .state .rows ≡ 0 = ap (λ (x : State). x .rows) (a .kept) in
+      let links : d .state .links ≡ s .links = ap (λ (x : Done). x .state .links) (a .kept) in
+      let rows : d .state .rows ≡ 0 = ap (λ (x : Done). x .state .rows) (a .kept) in
       record {
         columns = record { starts-long = t .columns .starts-long; ends-long = t .columns .ends-long; costs-long = costs-kept ∙ t .columns .costs-long };
         few-links = omega (arith, links, t .few-links);
@@ -300,7 +282,7 @@ pub apply-keeps : {r : State} {k : Lists} {d : Done} {costs list : List ℕ} →
     → Applied r (k .starts) (k .ends) (k .costs) (k .changed) (k .newcosts) (k .list) d costs list
     → Holds (d .state) (lists (k .starts) (k .ends) costs (k .changed) (k .newcosts) list)
 apply-keeps p t w a =
-    routing (ap (λ (x : State). x .phase) (a .kept) ∙ p) (apply-stands t a)
+    routing (ap (λ (x : Done). x .state .phase) (a .kept) ∙ p) (apply-stands t a)
     (record { changed-long = w .changed-long; newcosts-long = w .newcosts-long; list-long = list-kept t a (w .list-long) ∙ w .list-long })
 
 -- ---- every record
@@ -329,20 +311,26 @@ module _ {s : State} {k : Lists} (h : Holds s k) {item : Item} (ordered : inOrde
   pub link-phase : {start end cost : ℕ} → item ≡ Link start end cost → s .phase ≡ Linking
   link-phase is = is-linking (s .phase) (ap (λ (i : Item). inOrder (s .phase) i) (sym is) ∙ ordered)
 
-  pub steps-link : {start end cost : ℕ} → item ≡ Link start end cost → {r : Done}
-      → r ≡ linked (judgeLinks (table (s .nodes) (s .root) (oneMore (s .links) (k .starts) start) (oneMore (s .links) (k .ends) end) (oneMore (s .links) (k .costs) cost))) s
-      → {starts ends costs : List ℕ} → starts ≡ set (k .starts) (s .links) start → ends ≡ set (k .ends) (s .links) end → costs ≡ set (k .costs) (s .links) cost
+  pub steps-link : {start end cost : ℕ} → item ≡ Link start end cost → {r : Done} {starts ends costs : List ℕ}
+      → LinkTaken s (k .starts) (k .ends) (k .costs) start end cost r starts ends costs
       → Steps s k item r (lists starts ends costs (k .changed) (k .newcosts) (k .list)) × Holds (r .state) (lists starts ends costs (k .changed) (k .newcosts) (k .list))
-  steps-link is e a b c = both h (rw (is, e, a, b, c) (link (link-phase is)))
+  steps-link {start} {end} {cost} is taken =
+      let phase = link-phase is in
+      let verdict = taken .judged .verdict (s .root) (take (s .links) (k .ends)) (take (s .links) (k .costs)) cost (table-of h phase .judged) in
+      both h (rw (is, taken .done, taken .starts-now, taken .ends-now, taken .costs-now, verdict) (link phase))
 
   pub not-unread : (i : Item) → item ≡ i → inOrder (s .phase) i ≡ not (isUnread (s .phase)) → isUnread (s .phase) ≡ false
   not-unread i is e = not-true (isUnread (s .phase)) (sym e ∙ ap (λ (j : Item). inOrder (s .phase) j) (sym is) ∙ ordered)
 
-  pub steps-change : {named cost : ℕ} → item ≡ Change named cost → {r : State} → Ready s k r → {d : Done}
-      → d ≡ changing (judgeWaiting (tableOf r (k .starts) (k .ends) (k .costs)) (rowsOfColumns (oneMore (r .rows) (k .changed) named) (oneMore (r .rows) (k .newcosts) cost))) r
-      → {changed newcosts : List ℕ} → changed ≡ set (k .changed) (r .rows) named → newcosts ≡ set (k .newcosts) (r .rows) cost
+  pub steps-change : {named cost : ℕ} → item ≡ Change named cost → {r : State} → Ready s k r → treeIn r k → {d : Done} {changed newcosts : List ℕ}
+      → RowTaken r (k .changed) (k .newcosts) named cost d changed newcosts
       → Steps s k item d (lists (k .starts) (k .ends) (k .costs) changed newcosts (k .list)) × Holds (d .state) (lists (k .starts) (k .ends) (k .costs) changed newcosts (k .list))
-  steps-change is ready e a b = both h (rw (is, e, a, b) (change ready))
+  steps-change {named} {cost} is {r} ready t taken =
+      let links = length-take-le (r .links) (k .starts) (omega (arith, t .few-links, t .columns .starts-long)) in
+      let changed-long = length-take-le (r .rows) (k .changed) (omega (arith, t .few-rows, lent-of h .changed-long)) in
+      let newcosts-long = length-take-le (r .rows) (k .newcosts) (omega (arith, t .few-rows, lent-of h .newcosts-long)) in
+      let verdict = taken .judged .verdict (tableOf r (k .starts) (k .ends) (k .costs)) (take (r .rows) (k .newcosts)) cost links (omega arith) (t .rows-judged) in
+      both h (rw (is, taken .done, taken .changed-now, taken .newcosts-now, verdict) (change ready))
 
   pub steps-apply : item ≡ Apply → {r : State} → Ready s k r → {d : Done} {costs list : List ℕ}
       → Applied r (k .starts) (k .ends) (k .costs) (k .changed) (k .newcosts) (k .list) d costs list

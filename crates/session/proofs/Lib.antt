@@ -1,6 +1,3 @@
-pub mod Last
+-- The lemmas that the functions' proofs share, in reading order.
 pub mod Laws
 pub mod Keeps
-pub mod OneOutcome
-pub mod Listed
-pub mod Led

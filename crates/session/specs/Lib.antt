@@ -1,3 +1,4 @@
-pub mod States
+-- What 01-scope.md says of each record, as definitions, in reading order. What is shown of them stands in the crate `outcomes`.
+pub mod Holding
 pub mod Steps
-pub mod Outcomes
+pub mod Parts

@@ -1,71 +1,56 @@
--- What one record does, whatever it is and whenever it comes: 01's order of records, and what holds between them.
--- Assumes nothing.
+-- What one record does, whatever it is and whenever it comes. Assumes nothing.
 use mathlib.Core.Path.{_≡_}
-use mathlib.Core.Bool.{Bool, true, false, not}
+use mathlib.Core.Bool.{true, false}
 use mathlib.Core.List.{List, []}
 use Prim.Native.Nat.{ℕ}
-use lib.ListN.{set}
+use lib.ListN.{take, drop}
 use Rattle.rules.specs.Columns.{table}
-use Rattle.rules.specs.Refusals.{judgeLinks}
+use Rattle.rules.specs.Refusals.{Verdict, accepted, refused, judgeLinks}
+use Rattle.rules.specs.Jobs.{Built, Updated}
 use Rattle.batch.specs.Rows.{rowsOfColumns}
 use Rattle.stream.specs.declared.Item.{Item}
 use Rattle.stream.specs.declared.Item.the-variants.{Network, Link, Change, Apply, Ask, End, UnknownKind, CutShort}
-use Rattle.session.specs.declared.Phase.{Phase}
-use Rattle.session.specs.declared.Phase.the-variants.{Unread, Linking, Routing}
-use Rattle.session.specs.declared.Out.the-variants.{Nothing}
-use Rattle.session.specs.declared.State.{State}
-use Rattle.session.specs.declared.Done.{Done}
-use Rattle.session.specs.States.{Columns, TableStands, Lent, TreeStands, Begun, Applied, tableOf, oneMore, judgeWaiting, refusing, networked, linked, changing, asked}
+use Rattle.order.specs.declared.Phase.the-variants.{Unread, Linking, Routing}
+use Rattle.order.specs.Order.{isUnread, inOrder}
+use Rattle.enter.specs.More.{oneMore, withLink, judgeWaiting, entered}
+use Rattle.tree.specs.Value.{valueOf}
+use Rattle.state.specs.declared.Out.the-variants.{Nothing}
+use Rattle.state.specs.declared.State.{State}
+use Rattle.state.specs.declared.Done.{Done}
+use Rattle.state.specs.States.{tableOf, waiting, refusing, networked, linked, changing, begun, applied, asked}
+use Rattle.session.specs.Holding.{Lists, lists}
 
-abbrev pub isUnread : Phase → Bool
-isUnread Unread = true
-isUnread Linking = false
-isUnread Routing = false
+-- LINK: 3 to 5 of the table with this link as its last, which is written where it is accepted
+abbrev pub linkVerdict : State → Lists → ℕ → ℕ → ℕ → Verdict
+linkVerdict s k start end cost = judgeLinks (withLink (tableOf s (k .starts) (k .ends) (k .costs)) start end cost)
 
-abbrev pub isLinking : Phase → Bool
-isLinking Unread = false
-isLinking Linking = true
-isLinking Routing = false
+abbrev pub linkLists : Verdict → State → Lists → ℕ → ℕ → ℕ → Lists
+linkLists v s k start end cost =
+    lists (entered v (k .starts) (s .links) start) (entered v (k .ends) (s .links) end) (entered v (k .costs) (s .links) cost) (k .changed) (k .newcosts) (k .list)
 
--- the first record is NETWORK, then all LINKs, then any of the rest; an empty stream is out of order too. What is no
--- record is refused by its own number.
-abbrev pub inOrder : Phase → Item → Bool
-inOrder phase (Network nodes root) = isUnread phase
-inOrder phase (Link start end cost) = isLinking phase
-inOrder phase (Change link cost) = not (isUnread phase)
-inOrder phase Apply = not (isUnread phase)
-inOrder phase (Ask node) = not (isUnread phase)
-inOrder phase End = not (isUnread phase)
-inOrder phase (UnknownKind place) = true
-inOrder phase (CutShort place) = true
+-- CHANGE: 7 to 9 of the rows that wait with this one as the last, which is written where it is accepted
+abbrev pub changeVerdict : State → Lists → ℕ → ℕ → Verdict
+changeVerdict s k link cost =
+    judgeWaiting (tableOf s (k .starts) (k .ends) (k .costs))
+    (rowsOfColumns (oneMore (take (s .rows) (k .changed)) link) (oneMore (take (s .rows) (k .newcosts)) cost))
 
--- what the six lent lists hold
-pub record Lists : Type 0 where
-  pub starts : List ℕ
-  pub ends : List ℕ
-  pub costs : List ℕ
-  pub changed : List ℕ
-  pub newcosts : List ℕ
-  pub list : List ℕ
+abbrev pub changeLists : Verdict → State → Lists → ℕ → ℕ → Lists
+changeLists v s k link cost =
+    lists (k .starts) (k .ends) (k .costs) (entered v (k .changed) (s .rows) link) (entered v (k .newcosts) (s .rows) cost) (k .list)
 
-abbrev pub lists : List ℕ → List ℕ → List ℕ → List ℕ → List ℕ → List ℕ → Lists
-lists starts ends costs changed newcosts list =
-    record { starts = starts; ends = ends; costs = costs; changed = changed; newcosts = newcosts; list = list }
+-- the first record after the LINKs: a fresh tree, and all else as it was
+pub record Begun (s : State) (starts ends costs : List ℕ) (r : State) : Type 0 where
+  pub kept : r ≡ begun s (r .tree)
+  pub built : Built (tableOf s starts ends costs) accepted (valueOf (r .tree))
 
-abbrev pub tableIn : State → Lists → Type 0
-tableIn s k = TableStands s (k .starts) (k .ends) (k .costs)
-
-abbrev pub treeIn : State → Lists → Type 0
-treeIn s k = TreeStands s (k .starts) (k .ends) (k .costs) (k .changed) (k .newcosts)
-
-abbrev pub lentIn : Lists → Type 0
-lentIn k = Lent (k .changed) (k .newcosts) (k .list)
-
--- what holds between records
-pub data Holds (s : State) (k : Lists) : Type 0 where
-  unread : s .phase ≡ Unread → Columns (k .starts) (k .ends) (k .costs) → lentIn k → Holds s k
-  linking : s .phase ≡ Linking → tableIn s k → lentIn k → Holds s k
-  routing : s .phase ≡ Routing → treeIn s k → lentIn k → Holds s k
+-- APPLY: the update by the rows that wait is accepted; its count is told, its nodes are listed, and no row waits then
+pub record Applied (s : State) (starts ends costs changed newcosts list : List ℕ) (r : Done) (costs' list' : List ℕ) : Type 0 where
+  pub count : ℕ
+  pub kept : r ≡ applied s (r .state .tree) count
+  pub updated : Updated (tableOf s starts ends costs) (valueOf (s .tree)) (waiting s changed newcosts) list accepted
+      (valueOf (r .state .tree)) (take (s .links) costs') list' count
+  -- the places of the column past the links stay
+  pub beyond : drop (s .links) costs' ≡ drop (s .links) costs
 
 -- the state that CHANGE, APPLY and ASK meet: the first of them after the LINKs has the tree built
 pub data Ready (s : State) (k : Lists) : State → Type 0 where
@@ -81,13 +66,9 @@ pub data Steps (s : State) (k : Lists) : Item → Done → Lists → Type 0 wher
   network : {nodes root : ℕ} → s .phase ≡ Unread
       → Steps s k (Network nodes root) (networked (judgeLinks (table nodes root [] [] [])) s nodes root) k
   link : {start end cost : ℕ} → s .phase ≡ Linking
-      → Steps s k (Link start end cost)
-      (linked (judgeLinks (table (s .nodes) (s .root) (oneMore (s .links) (k .starts) start) (oneMore (s .links) (k .ends) end) (oneMore (s .links) (k .costs) cost))) s)
-      (lists (set (k .starts) (s .links) start) (set (k .ends) (s .links) end) (set (k .costs) (s .links) cost) (k .changed) (k .newcosts) (k .list))
+      → Steps s k (Link start end cost) (linked (linkVerdict s k start end cost) s) (linkLists (linkVerdict s k start end cost) s k start end cost)
   change : {link cost : ℕ} {r : State} → Ready s k r
-      → Steps s k (Change link cost)
-      (changing (judgeWaiting (tableOf r (k .starts) (k .ends) (k .costs)) (rowsOfColumns (oneMore (r .rows) (k .changed) link) (oneMore (r .rows) (k .newcosts) cost))) r)
-      (lists (k .starts) (k .ends) (k .costs) (set (k .changed) (r .rows) link) (set (k .newcosts) (r .rows) cost) (k .list))
+      → Steps s k (Change link cost) (changing (changeVerdict r k link cost) r) (changeLists (changeVerdict r k link cost) r k link cost)
   apply : {r : State} {done : Done} {costs list : List ℕ} → Ready s k r
       → Applied r (k .starts) (k .ends) (k .costs) (k .changed) (k .newcosts) (k .list) done costs list
       → Steps s k Apply done (lists (k .starts) (k .ends) costs (k .changed) (k .newcosts) list)

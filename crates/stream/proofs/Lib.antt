@@ -1,6 +1,2 @@
--- Theorems about specs/, and the lemmas that the functions' proofs share, in reading order.
+-- The lemmas that the functions' proofs share.
 pub mod Laws
-pub mod Stands
-pub mod Splits
-pub mod Encoded
-pub mod Pier

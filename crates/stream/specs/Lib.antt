@@ -1,4 +1,2 @@
--- What 01-scope.md says of the record stream, as definitions, in reading order. Theorems about them stand in proofs/.
+-- What 01-scope.md says of the record stream, as definitions. Theorems about whole streams stand in the crate `splits`.
 pub mod Records
-pub mod Splitting
-pub mod Encoding

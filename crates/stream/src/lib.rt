@@ -23,7 +23,7 @@ pub struct Read {
 }
 
 // How long the body of a record is, or that no record has that kind.
-enum Body {
+pub enum Body {
     Bytes(usize),
     Unknown,
 }

@@ -11,26 +11,26 @@ use Rattle.rules.specs.Jobs.{written, changedBelow}
 use Rattle.rules.specs.Refusals.{Verdict, accepted, refused, judgeLinks}
 use Rattle.rules.specs.Columns.{table, rowsOf}
 use Rattle.rules.proofs.Accepted.{update-accept}
-use Rattle.batch.specs.Rows.{rowsOfColumns}
 use Rattle.tree.specs.Value.{valueOf}
 use Rattle.stream.specs.declared.Item.{Item}
 use Rattle.stream.specs.declared.Read.{Read}
 use Rattle.stream.specs.Records.{readAt}
-use Rattle.session.specs.declared.Out.{Out}
-use Rattle.session.specs.declared.Out.the-variants.{Nothing, Row, Changed, Refused}
-use Rattle.session.specs.declared.State.{State}
-use Rattle.session.specs.declared.Done.{Done}
-use Rattle.session.specs.States.{tableOf, oneMore, judgeWaiting, networked, linked, changing, Applied}
-use Rattle.session.specs.Steps.{Lists, lists, Holds, Steps, out-of-order, unknown, cut, ended, network, link, change, apply, ask}
+use Rattle.state.specs.declared.Out.{Out}
+use Rattle.state.specs.declared.Out.the-variants.{Nothing, Row, Changed, Refused}
+use Rattle.state.specs.declared.State.{State}
+use Rattle.state.specs.declared.Done.{Done}
+use Rattle.state.specs.States.{networked, linked, changing, goesOn}
+use Rattle.session.specs.Steps.{linkVerdict, changeVerdict, Applied, Steps, out-of-order, unknown, cut, ended, network, link, change, apply, ask}
+use Rattle.session.specs.Holding.{Lists, lists, Holds}
 use Rattle.session.proofs.Keeps.{columns-of, lent-of}
-use Rattle.stream.proofs.Splits.{Moves, both}
+use Rattle.splits.proofs.Splits.{Moves, both}
 use Rattle.lines.specs.Lines.{lineOf, refusalLine, entriesIn, lineRoom}
 use Rattle.lines.specs.Putting.{Put}
 use Rattle.lines.proofs.Laws.{put-none, put-then, put-length}
 use Rattle.turns.specs.declared.Turn.{Turn}
-use Rattle.turns.specs.Turns.{mostBytes, goesOn, Turns, too-long, reads, Turned}
-use Rattle.turns.specs.Prints.{Tells, none, then, Part, Filled}
-use Rattle.turns.proofs.Runs.{moves-on, tells-moves}
+use Rattle.turns.specs.Turns.{mostBytes, Turns, too-long, reads, Turned}
+use Rattle.turns.specs.Filling.{Tells, none, then, Part, Filled}
+use Rattle.turns.proofs.Moves.{moves-on, tells-moves}
 
 -- ---- a line tells at most the entries that the list has
 
@@ -58,7 +58,7 @@ applied-fits : {s : State} {starts ends costs changed newcosts list : List ℕ} 
 applied-fits {s} {list = list} {done} {list' = list'} a =
     let up = update-accept (a .updated) refl in
     let told = changedBelow (rowsOf (valueOf (s .tree))) (rowsOf (valueOf (done .state .tree))) (s .nodes) in
-    rw (a .told) (front-fits told list list' (a .count) (up .listed) (up .count))
+    rw (ap (λ (x : Done). x .out) (a .kept)) (front-fits told list list' (a .count) (up .listed) (up .count))
 
 entries-listed : {s : State} {k : Lists} {item : Item} {done : Done} {after : Lists} → Steps s k item done after
     → entriesIn (done .out) ≤ length (after .list)
@@ -67,10 +67,8 @@ entries-listed unknown = omega arith
 entries-listed cut = omega arith
 entries-listed (ended e) = omega arith
 entries-listed {s} (network {nodes} {root} e) = network-none (judgeLinks (table nodes root [] [] [])) s nodes root _
-entries-listed {s} {k} (link {start} {end} {cost} e) =
-    link-none (judgeLinks (table (s .nodes) (s .root) (oneMore (s .links) (k .starts) start) (oneMore (s .links) (k .ends) end) (oneMore (s .links) (k .costs) cost))) s _
-entries-listed {s} {k} (change {link = named} {cost} {r} ready) =
-    change-none (judgeWaiting (tableOf r (k .starts) (k .ends) (k .costs)) (rowsOfColumns (oneMore (r .rows) (k .changed) named) (oneMore (r .rows) (k .newcosts) cost))) r _
+entries-listed {s} {k} (link {start} {end} {cost} e) = link-none (linkVerdict s k start end cost) s _
+entries-listed {s} {k} (change {link = named} {cost} {r} ready) = change-none (changeVerdict r k named cost) r _
 entries-listed (apply r a) = applied-fits a
 entries-listed (ask {node} {r} ready) =
     let rows = rowsOf (valueOf (r .tree)) in

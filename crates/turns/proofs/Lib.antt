@@ -1,7 +1,3 @@
--- Theorems about specs/, and the lemmas that the functions' proofs share, in reading order.
-pub mod Runs
+-- The lemmas that the functions' proofs share, in reading order.
+pub mod Moves
 pub mod Laws
-pub mod Written
-pub mod Ways
-pub mod Alike
-pub mod Once

@@ -1,4 +1,3 @@
--- What 01-scope.md says of a stream's run and of what the program prints, as definitions, in reading order. Theorems about
--- them stand in proofs/.
+-- What 01-scope.md says of a stream's run, as definitions, in reading order. What is printed stands in the crate `printed`.
 pub mod Turns
-pub mod Prints
+pub mod Filling

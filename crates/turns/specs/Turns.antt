@@ -1,15 +1,14 @@
 -- One turn of a stream: the item at a place is read, does what it does, and its line is told. Assumes nothing.
 use Prim.Native.Nat.{ℕ, _≤_, _<_}
-use mathlib.Core.Bool.{Bool, true, false, not, _&&_}
+use mathlib.Core.Bool.{Bool, true, false}
 use mathlib.Core.List.{List}
 use lib.ListN.{length}
-use Rattle.stream.specs.declared.Item.{Item}
-use Rattle.stream.specs.Records.{readAt, isRecord}
-use Rattle.session.specs.declared.Out.{Out}
-use Rattle.session.specs.declared.Out.the-variants.{Nothing, Row, Changed, Refused}
-use Rattle.session.specs.declared.State.{State}
-use Rattle.session.specs.declared.Done.{Done}
-use Rattle.session.specs.Steps.{Lists, Holds, Steps}
+use Rattle.stream.specs.Records.{readAt}
+use Rattle.state.specs.declared.State.{State}
+use Rattle.state.specs.declared.Done.{Done}
+use Rattle.state.specs.States.{goesOn}
+use Rattle.session.specs.Holding.{Lists, Holds}
+use Rattle.session.specs.Steps.{Steps}
 use Rattle.lines.specs.Lines.{lineOf, refusalLine}
 use Rattle.lines.specs.Putting.{Put}
 use Rattle.turns.specs.declared.Turn.{Turn}
@@ -17,16 +16,6 @@ use Rattle.turns.specs.declared.Turn.{Turn}
 -- a stream for the program has no more bytes
 abbrev pub mostBytes : ℕ
 mostBytes = 32768
-
-abbrev pub isRefusal : Out → Bool
-isRefusal Nothing = false
-isRefusal (Row node dist parent first) = false
-isRefusal (Changed count) = false
-isRefusal (Refused number) = true
-
--- after a refusal the program stops, and so it does at the end
-abbrev pub goesOn : Item → Out → Bool
-goesOn item out = isRecord item && not (isRefusal out)
 
 -- the line that a turn at a place tells, the state and the lists after it, the next place, and whether there is more. Of
 -- a stream that is too long nothing is read.

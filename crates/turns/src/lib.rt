@@ -2,14 +2,12 @@
 ghost use mathlib.Core.Path.{_≡_};
 ghost use Prim.Native.Nat.{_+_, _≤_};
 ghost use lib.ListN.{length};
-ghost use Rattle.stream.specs.Records.{isRecord};
-ghost use Rattle.session.specs.Steps.{lists, Holds};
+ghost use Rattle.session.specs.Holding.{lists, Holds};
 ghost use Rattle.lines.specs.Lines.{lineRoom};
-ghost use Rattle.turns.specs.Turns.{isRefusal, goesOn, Turned};
-ghost use Rattle.turns.specs.Prints.{Filled};
-use session::Out;
-use session::State;
-use stream::Item;
+ghost use Rattle.turns.specs.Turns.{Turned};
+ghost use Rattle.turns.specs.Filling.{Filled};
+use state::Out;
+use state::State;
 
 // A stream for the program has no more bytes.
 const MOST_BYTES: usize = 32_768;
@@ -22,47 +20,6 @@ pub struct Turn {
     pub end: usize,
     // Whether there is a next turn: none at the end of the stream and none after a refusal.
     pub more: bool,
-}
-
-fn is_record(item: Item) -> bool
-    ensures { λ r. ⌜ r ≡ isRecord item ⌝ }
-{
-    match item {
-        Item::Network { nodes: _, root: _ } => true,
-        Item::Link {
-            start: _,
-            end: _,
-            cost: _,
-        } => true,
-        Item::Change { link: _, cost: _ } => true,
-        Item::Apply => true,
-        Item::Ask { node: _ } => true,
-        Item::End => false,
-        Item::UnknownKind(_) => false,
-        Item::CutShort(_) => false,
-    }
-}
-
-fn is_refusal(out: Out) -> bool
-    ensures { λ r. ⌜ r ≡ isRefusal out ⌝ }
-{
-    match out {
-        Out::Nothing => false,
-        Out::Row {
-            node: _,
-            dist: _,
-            parent: _,
-            first: _,
-        } => false,
-        Out::Changed { count: _ } => false,
-        Out::Refused { number: _ } => true,
-    }
-}
-
-fn goes_on(item: Item, out: Out) -> bool
-    ensures { λ r. ⌜ r ≡ goesOn item out ⌝ }
-{
-    is_record(item) && !is_refusal(out)
 }
 
 // One turn at a place of the stream. A stream that is too long is told at once, whatever the place.
@@ -102,7 +59,7 @@ pub fn take_turn(
         state: after,
         next: read.next,
         end: end,
-        more: goes_on(item, out),
+        more: state::goes_on(item, out),
     }
 }
 

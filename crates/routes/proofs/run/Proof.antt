@@ -1,12 +1,13 @@
 -- `routes::run` is safe and ends: what holds between records holds between parts too, and what is left to read falls.
 -- Assumes nothing.
-use mathlib.Core.Path.{_≡_, refl, sym, _∙_}
+use mathlib.Core.Path.{_≡_, refl, sym, ap, _∙_}
 use Prim.Native.Nat.{ℕ}
 use native.Mathlib.Omega.{arith}
 use borrow.Author.Needs.{needs}
 use lib.ListN.{length, length-replicate}
 use lib.Seq.{length-take-le}
-use Rattle.session.specs.Steps.{lists, Holds, unread}
+use Rattle.state.specs.declared.State.{State}
+use Rattle.session.specs.Holding.{lists, Holds, unread}
 use Rattle.session.proofs.Keeps.{columns-of, lent-of}
 use Rattle.lines.proofs.Laws.{put-length}
 use Rattle.turns.proofs.Laws.{part-end, left, filled-less}
@@ -25,7 +26,7 @@ start-requires c κs = search needs
 
 loop-holds : tie.Need-loop-holds Inv-loop μ-loop
 loop-holds c = (
-  unread (c .start .ensures .0) (record { starts-long = length-replicate {A = ℕ} 4096 0; ends-long = length-replicate {A = ℕ} 4096 0; costs-long = length-replicate {A = ℕ} 4096 0 })
+  unread (ap (λ (x : State). x .phase) (c .start .ensures)) (record { starts-long = length-replicate {A = ℕ} 4096 0; ends-long = length-replicate {A = ℕ} 4096 0; costs-long = length-replicate {A = ℕ} 4096 0 })
       (record { changed-long = length-replicate {A = ℕ} 256 0; newcosts-long = length-replicate {A = ℕ} 256 0; list-long = length-replicate {A = ℕ} 256 0 }),
   length-replicate {A = ℕ} 32768 0,
 )

@@ -1,7 +1,7 @@
 -- `session::apply` meets its contract: the update by the rows that wait is accepted. Assumes nothing.
 use mathlib.Core.Path.{refl, sym}
-use borrow.Author.Needs.{needs}
 use native.Mathlib.Omega.{arith}
+use borrow.Author.Needs.{needs}
 use lib.Seq.{length-take-le}
 use Rattle.session.proofs.Laws.{apply-updated, apply-beyond}
 use Rattle.session.proofs.apply.Statement.{statement}
@@ -28,6 +28,9 @@ slice-aggregate-update-columns-5 c = sym (length-take-le _ _ (omega (arith, c .b
 update-columns-requires : tie.Need-update-columns-requires
 update-columns-requires c κs = search needs
 
+apply-requires : tie.Need-apply-requires
+apply-requires c κs = search needs
+
 same-length : tie.Need-same-length
 same-length c = search needs
 
@@ -36,15 +39,14 @@ same-length-2 c = search needs
 
 returns : tie.Need-returns
 returns c =
-    let at = c .before .before .before .before .before .before .before .before .before .before .before .before .before .before .before .before .before .before .before in
-    let job = c .before .before .before .before .before .update-columns in
-    record {
+    let at = c .before .before .before .before .before .before .before .before .before .before .before .before .before .before .before .before .before .before .before .before in
+    let job = c .before .before .before .before .before .before .update-columns in
+    rw (c .apply .ensures) (record {
       count = job .result .count;
-      told = refl;
       kept = refl;
       updated = apply-updated (at .pre .0) (at .pre .1) (job .ensures);
       beyond = apply-beyond (at .pre .0) (at .pre .1) (job .ensures);
-    }
+    })
 
 pub apply-spec : {M : Type 1} → statement M
 apply-spec =
@@ -57,6 +59,7 @@ apply-spec =
     slice-aggregate-update-columns-4
     slice-aggregate-update-columns-5
     update-columns-requires
+    apply-requires
     same-length
     same-length-2
     returns)

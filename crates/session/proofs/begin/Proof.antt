@@ -1,7 +1,7 @@
 -- `session::begin` meets its contract: the fresh build of an accepted table is accepted. Assumes nothing.
 use mathlib.Core.Path.{refl, sym}
-use borrow.Author.Needs.{needs}
 use native.Mathlib.Omega.{arith}
+use borrow.Author.Needs.{needs}
 use lib.Seq.{length-take-le}
 use Rattle.session.proofs.Laws.{begins}
 use Rattle.session.proofs.begin.Statement.{statement}
@@ -19,8 +19,11 @@ slice-aggregate-build-3 c = sym (length-take-le _ _ (omega (arith, c .before .be
 build-requires : tie.Need-build-requires
 build-requires c κs = search needs
 
+begin-requires : tie.Need-begin-requires
+begin-requires c κs = search needs
+
 returns : tie.Need-returns
-returns c = record { kept = refl; built = begins (c .before .before .before .before .before .before .before .before .pre) (c .before .build .ensures) }
+returns c = rw (c .begin .ensures) (record { kept = refl; built = begins (c .before .before .before .before .before .before .before .before .before .pre) (c .before .before .build .ensures) })
 
 pub begin-spec : {M : Type 1} → statement M
 begin-spec =
@@ -30,4 +33,5 @@ begin-spec =
     slice-aggregate-build-2
     slice-aggregate-build-3
     build-requires
+    begin-requires
     returns)

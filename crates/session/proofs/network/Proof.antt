@@ -1,9 +1,8 @@
 -- `session::network` meets its contract: a table with no links yet is judged. Assumes nothing.
-use mathlib.Core.Path.{refl}
+use mathlib.Core.Path.{refl, ap, _∙_}
 use borrow.Author.Needs.{needs}
 use Rattle.rules.specs.Refusals.{Verdict}
-use Rattle.rules.proofs.OneOutcome.{number-accepts, number-refuses}
-use Rattle.session.specs.States.{networked}
+use Rattle.state.specs.States.{networked}
 use Rattle.session.proofs.Laws.{is-refused, is-done}
 use Rattle.session.proofs.network.Statement.{statement}
 use Rattle.session.proofs.network.Tie as tie
@@ -30,13 +29,18 @@ returns : tie.Need-returns
 returns c =
     let given = c .before .before .before .before .before .before .before .before .before .before .args in
     let links = c .before .before .before .judge-links in
-    is-refused (λ (v : Verdict). networked v (given .state) (given .nodes) (given .root)) (λ n x. refl) (links .result) (links .ensures) (c .refuse .ensures) (number-refuses (links .result) (c .before .before .number .ensures) (c .before .if1 .taken))
+    is-refused (λ (v : Verdict). networked v (given .state) (given .nodes) (given .root)) (λ n x. refl) (links .result) (c .before .before .number .ensures) (c .refuse .ensures) (c .before .if1 .taken)
+    ∙ ap (λ (v : Verdict). networked v (given .state) (given .nodes) (given .root)) (links .ensures)
+
+network-requires : tie.Need-network-requires
+network-requires c κs = search needs
 
 returns-2 : tie.Need-returns-2
 returns-2 c =
     let given = c .before .before .before .before .before .before .before .before .before .before .args in
     let links = c .before .before .before .judge-links in
-    is-done (λ (v : Verdict). networked v (given .state) (given .nodes) (given .root)) (λ n x. refl) (links .result) (links .ensures) (number-accepts (links .result) (c .before .before .number .ensures) (c .before .if1 .left))
+    is-done (λ (v : Verdict). networked v (given .state) (given .nodes) (given .root)) (λ n x. refl) (links .result) (c .before .before .number .ensures) (c .network .ensures) (c .before .if1 .left)
+    ∙ ap (λ (v : Verdict). networked v (given .state) (given .nodes) (given .root)) (links .ensures)
 
 pub network-spec : {M : Type 1} → statement M
 network-spec =
@@ -49,4 +53,5 @@ network-spec =
     number-requires
     refuse-requires
     returns
+    network-requires
     returns-2)

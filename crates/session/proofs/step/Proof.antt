@@ -2,7 +2,7 @@
 use mathlib.Core.Path.{refl, sym, _∙_}
 use borrow.Author.Needs.{needs}
 use borrow.Author.Tests.{not-false}
-use Rattle.session.specs.Steps.{lists}
+use Rattle.session.specs.Holding.{lists}
 use Rattle.session.proofs.Keeps.{table-of, lent-of, link-phase, not-unread, few-nodes, not-true, steps-network, steps-link, steps-change, steps-apply, steps-ask, steps-end, steps-unknown, steps-cut, steps-disorder}
 use Rattle.session.proofs.step.Statement.{statement}
 use Rattle.session.proofs.step.Tie as tie
@@ -10,11 +10,11 @@ use Rattle.session.proofs.step.Tie as tie
 in-order-requires : tie.Need-in-order-requires
 in-order-requires c κs = search needs
 
-stop-requires : tie.Need-stop-requires
-stop-requires c κs = search needs
+refuse-requires : tie.Need-refuse-requires
+refuse-requires c κs = search needs
 
 returns : tie.Need-returns
-returns c = steps-disorder (c .before .before .before .before .before .before .before .before .before .pre) (sym (c .before .before .in-order .ensures) ∙ not-true _ (c .before .if1 .taken)) (c .stop .ensures)
+returns c = steps-disorder (c .before .before .before .before .before .before .before .before .before .pre) (sym (c .before .before .in-order .ensures) ∙ not-true _ (c .before .if1 .taken)) (c .refuse .ensures)
 
 enum-known-item : tie.Need-enum-known-item
 enum-known-item c = search needs
@@ -26,7 +26,10 @@ enum-known-item-2 : tie.Need-enum-known-item-2
 enum-known-item-2 c = search needs
 
 link-requires : tie.Need-link-requires
-link-requires c κs = table-of (c .before .before .before .before .before .before .before .before .before .before .before .before .before .before .pre) (link-phase (c .before .before .before .before .before .before .before .before .before .before .before .before .before .before .pre) (sym (c .before .before .before .before .before .before .before .in-order .ensures) ∙ not-false _ (c .before .before .before .before .before .before .if1 .left)) (c .before .before .before .before .item2 .given .1))
+link-requires c κs =
+    let holds = c .before .before .before .before .before .before .before .before .before .before .before .before .before .before .pre in
+    let table = table-of holds (link-phase holds (sym (c .before .before .before .before .before .before .before .in-order .ensures) ∙ not-false _ (c .before .before .before .before .before .before .if1 .left)) (c .before .before .before .before .item2 .given .1)) in
+    (table .few-links, table .columns)
 
 enum-known-item-3 : tie.Need-enum-known-item-3
 enum-known-item-3 c = search needs
@@ -35,7 +38,9 @@ ready-requires : tie.Need-ready-requires
 ready-requires c κs = (c .before .before .before .before .before .before .before .before .before .before .before .before .before .before .before .before .before .pre, not-unread (c .before .before .before .before .before .before .before .before .before .before .before .before .before .before .before .before .before .pre) (sym (c .before .before .before .before .before .before .before .before .before .before .in-order .ensures) ∙ not-false _ (c .before .before .before .before .before .before .before .before .before .if1 .left)) _ (c .before .before .before .before .before .before .before .item3 .given .1) refl)
 
 change-requires : tie.Need-change-requires
-change-requires c κs = (c .before .before .before .before .before .before .ready .ensures .1, lent-of (c .before .before .before .before .before .before .before .before .before .before .before .before .before .before .before .before .before .before .before .before .before .before .before .before .pre))
+change-requires c κs =
+    let lent = lent-of (c .before .before .before .before .before .before .before .before .before .before .before .before .before .before .before .before .before .before .before .before .pre) in
+    (c .before .before .ready .ensures .1 .few-rows, lent .changed-long, lent .newcosts-long)
 
 enum-told : tie.Need-enum-told
 enum-told c = search needs
@@ -61,14 +66,14 @@ enum-told-2 c = search needs
 enum-told-3 : tie.Need-enum-told-3
 enum-told-3 c = search needs
 
-stop-requires-2 : tie.Need-stop-requires-2
-stop-requires-2 c κs = search needs
+refuse-requires-2 : tie.Need-refuse-requires-2
+refuse-requires-2 c κs = search needs
 
 enum-told-4 : tie.Need-enum-told-4
 enum-told-4 c = search needs
 
-stop-requires-3 : tie.Need-stop-requires-3
-stop-requires-3 c κs = search needs
+refuse-requires-3 : tie.Need-refuse-requires-3
+refuse-requires-3 c κs = search needs
 
 same-length : tie.Need-same-length
 same-length c = search needs
@@ -92,9 +97,7 @@ same-length-6 : tie.Need-same-length-6
 same-length-6 c = search needs
 
 returns-3 : tie.Need-returns-3
-returns-3 c =
-    let job = c .before .before .before .before .before .before .link .ensures in
-    steps-link (c .before .before .before .before .before .before .before .before .before .before .before .before .before .before .before .before .before .before .before .before .before .pre) (sym (c .before .before .before .before .before .before .before .before .before .before .before .before .before .before .in-order .ensures) ∙ not-false _ (c .before .before .before .before .before .before .before .before .before .before .before .before .before .if1 .left)) (c .before .before .before .before .before .before .before .before .before .before .before .item2 .given .1) (job .0) (job .1) (job .2) (job .3)
+returns-3 c = steps-link (c .before .before .before .before .before .before .before .before .before .before .before .before .before .before .before .before .before .before .before .before .before .pre) (sym (c .before .before .before .before .before .before .before .before .before .before .before .before .before .before .in-order .ensures) ∙ not-false _ (c .before .before .before .before .before .before .before .before .before .before .before .before .before .if1 .left)) (c .before .before .before .before .before .before .before .before .before .before .before .item2 .given .1) (c .before .before .before .before .before .before .link .ensures)
 
 same-length-7 : tie.Need-same-length-7
 same-length-7 c = search needs
@@ -116,9 +119,8 @@ same-length-12 c = search needs
 
 returns-4 : tie.Need-returns-4
 returns-4 c =
-    let job = c .before .before .before .before .change .ensures in
-    let at = c .before .before .before .before .before .before .before .before .before .before .before .ready .ensures in
-    steps-change (c .before .before .before .before .before .before .before .before .before .before .before .before .before .before .before .before .before .before .before .before .before .before .before .before .before .before .before .before .before .pre) (sym (c .before .before .before .before .before .before .before .before .before .before .before .before .before .before .before .before .before .before .before .before .before .before .in-order .ensures) ∙ not-false _ (c .before .before .before .before .before .before .before .before .before .before .before .before .before .before .before .before .before .before .before .before .before .if1 .left)) (c .before .before .before .before .before .before .before .before .before .before .before .before .before .before .before .before .before .before .before .item3 .given .1) (at .0) (job .0) (job .1) (job .2)
+    let at = c .before .before .before .before .before .before .before .ready .ensures in
+    steps-change (c .before .before .before .before .before .before .before .before .before .before .before .before .before .before .before .before .before .before .before .before .before .before .before .before .before .pre) (sym (c .before .before .before .before .before .before .before .before .before .before .before .before .before .before .before .before .before .before .in-order .ensures) ∙ not-false _ (c .before .before .before .before .before .before .before .before .before .before .before .before .before .before .before .before .before .if1 .left)) (c .before .before .before .before .before .before .before .before .before .before .before .before .before .before .before .item3 .given .1) (at .0) (at .1) (c .before .before .before .before .change .ensures)
 
 same-length-13 : tie.Need-same-length-13
 same-length-13 c = search needs
@@ -170,17 +172,17 @@ returns-7 : tie.Need-returns-7
 returns-7 c = steps-end (c .before .before .before .before .before .before .before .before .before .before .pre) (sym (c .before .before .before .in-order .ensures) ∙ not-false _ (c .before .before .if1 .left)) (c .enum-told2 .given .1)
 
 returns-8 : tie.Need-returns-8
-returns-8 c = steps-unknown (c .before .before .before .before .before .before .before .before .before .before .before .pre) (sym (c .before .before .before .before .in-order .ensures) ∙ not-false _ (c .before .before .before .if1 .left)) (c .before .enum-told3 .given .1) (c .stop2 .ensures)
+returns-8 c = steps-unknown (c .before .before .before .before .before .before .before .before .before .before .before .pre) (sym (c .before .before .before .before .in-order .ensures) ∙ not-false _ (c .before .before .before .if1 .left)) (c .before .enum-told3 .given .1) (c .refuse2 .ensures)
 
 returns-9 : tie.Need-returns-9
-returns-9 c = steps-cut (c .before .before .before .before .before .before .before .before .before .before .before .pre) (sym (c .before .before .before .before .in-order .ensures) ∙ not-false _ (c .before .before .before .if1 .left)) (c .before .enum-told4 .given .1) (c .stop3 .ensures)
+returns-9 c = steps-cut (c .before .before .before .before .before .before .before .before .before .before .before .pre) (sym (c .before .before .before .before .in-order .ensures) ∙ not-false _ (c .before .before .before .if1 .left)) (c .before .enum-told4 .given .1) (c .refuse3 .ensures)
 
 pub step-spec : {M : Type 1} → statement M
 step-spec =
     tie.close
     (tie.spec
     in-order-requires
-    stop-requires
+    refuse-requires
     returns
     enum-known-item
     network-requires
@@ -197,9 +199,9 @@ step-spec =
     ask-requires
     enum-told-2
     enum-told-3
-    stop-requires-2
+    refuse-requires-2
     enum-told-4
-    stop-requires-3
+    refuse-requires-3
     same-length
     same-length-2
     same-length-3

@@ -3,7 +3,7 @@
 use mathlib.Core.Path.{refl}
 use native.Mathlib.Omega.{arith}
 use borrow.Author.Needs.{needs}
-use Rattle.session.specs.Steps.{lists}
+use Rattle.session.specs.Holding.{lists}
 use Rattle.turns.proofs.Laws.{Kept, Filling, empty, filling-kept, filling-holds, filling-end, filling-more, filled-ended, filled-full, left, turn-less}
 use Rattle.turns.proofs.fill.Statement.{statement}
 use Rattle.turns.proofs.fill.Tie as tie

@@ -1,0 +1,1 @@
+// No code: what is shown of every record, over the definitions of `session`.

@@ -1,0 +1,1 @@
+// No code: what is shown of whole streams, over the definitions of `stream`.
