@@ -11,7 +11,7 @@ use Rattle.rules.specs.Net.{Net}
 use Rattle.rules.specs.Tree.{Rows}
 use Rattle.rules.specs.Tests.{all, usable, reached, tight, offers, sumBy, firstBy, rootRow, hungRow, bareRow, breaks}
 use Rattle.rules.proofs.Logic.{or-l, or-r, T-true, T-false, all-at, all-is}
-use Rattle.fit.specs.Passes.{hungBy, hungAlone, rowAlone}
+use Rattle.alone.specs.Alone.{hungBy, hungAlone, rowAlone}
 
 last-first : (u a b c d : Bool) → (a && b && c && d && u) ≡ (u && a && b && c && d)
 last-first true a b c d = and-true (a && b && c && d)

@@ -13,7 +13,8 @@ use Rattle.rules.specs.Columns.{Table, Tree, narrow, netIn, rowsIn, mostNodes}
 use Rattle.rules.specs.Refusals.{Verdict, accepted, refused, judgeLinks, judgeTree, judgeTreeIn}
 use Rattle.rules.specs.declared.Profile.{Profile}
 use Rattle.rules.proofs.Logic.{First, first-is, and-l, and-r, or-cases, true-T, T-true}
-use Rattle.fit.specs.Passes.{hasMore, offersLess, offends, LeastOffended, FirstWrong}
+use Rattle.offends.specs.Offends.{hasMore, offersLess, offends, LeastOffended}
+use Rattle.alone.specs.Alone.{FirstWrong}
 use Rattle.fit.proofs.Breaks.{Less, bad-row, right-row, bad-offer}
 
 -- ---- what a link that offends offers

@@ -1,11 +1,13 @@
--- The table and the network that stand in lent columns. Assumes nothing.
+-- The table and the network that stand in lent columns, and the rows that stand in lent arrays. Assumes nothing.
 use mathlib.Core.List.{List}
 use Prim.Native.Nat.{ℕ}
 use denote.Ref.{RefT}
 use denote.Triple.Both.{Both}
+use lib.ListN.{getD}
 use Rattle.rules.specs.Net.{Net}
-use Rattle.rules.specs.Columns.{Table, table, netIn}
-use Rattle.rules.specs.Lent.{lent}
+use Rattle.rules.specs.Tree.{Rows}
+use Rattle.rules.specs.Columns.{Table, table, netIn, rowsIn, noLink}
+use Rattle.rules.specs.Lent.{lent, lentTree}
 use Rattle.rules.specs.declared.Profile.{Profile}
 use Rattle.costs.specs.Costs.{costsOf}
 
@@ -18,3 +20,13 @@ lentTableAt nodes root starts ends narrow wide = tableAt nodes root (lent starts
 
 abbrev pub lentNet : {W X Y Z : Type 0} → Profile → ℕ → ℕ → Both (RefT (List ℕ)) W → Both (RefT (List ℕ)) X → Both (RefT (List ℕ)) Y → Both (RefT (List ℕ)) Z → Net
 lentNet profile nodes root starts ends narrow wide = netIn profile (lentTableAt nodes root starts ends narrow wide)
+
+-- the distances alone, and the first links
+abbrev pub lentDist : {X : Type 0} → Profile → Both (RefT (List ℕ)) X → ℕ → ℕ
+lentDist p dist v = getD (lent dist) v (p .mark)
+
+abbrev pub lentFirst : {X : Type 0} → Both (RefT (List ℕ)) X → ℕ → ℕ
+lentFirst first v = getD (lent first) v noLink
+
+abbrev pub lentRows : {X Y Z : Type 0} → Profile → Both (RefT (List ℕ)) X → Both (RefT (List ℕ)) Y → Both (RefT (List ℕ)) Z → Rows
+lentRows p dist parent first = rowsIn p (lentTree dist parent first)

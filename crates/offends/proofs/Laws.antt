@@ -1,0 +1,63 @@
+-- The pass over the links, one link further. Assumes nothing.
+use mathlib.Core.Path.{_≡_, refl}
+use mathlib.Core.Bool.{Bool, true, false, _&&_, true≢false}
+use mathlib.Core.List.{List}
+use Prim.Native.Nat.{ℕ, _+_, _≤_, _<_}
+use native.Mathlib.Omega.{arith}
+use lib.ListN.{length, getD}
+use borrow.Author.Count.{below-more}
+use Rattle.rules.specs.Net.{Net}
+use Rattle.rules.specs.Tests.{usable}
+use Rattle.rules.specs.Columns.{Table, Proper, netIn, mostNodes}
+use Rattle.rules.specs.declared.Profile.{Profile}
+use Rattle.usable.proofs.Reading.{start-has-row, end-has-row, read-row}
+use Rattle.offends.specs.Offends.{offersLess, offends, Offended, LeastOffended}
+
+-- what is read of a link and of its ends decides
+module _ (p : Profile) {t : Table} (proper : Proper t) (ds : List ℕ) (long : length ds ≡ mostNodes) {k : ℕ} (is-link : k < length (t .starts)) where
+  pub offends-reads : offends (netIn p t) (λ v. getD ds v (p .mark)) k
+      ≡ (offersLess (p .mark) (p .ceiling) (getD ds (getD (t .starts) k 0) 0) (getD (t .costs) k 0) (getD ds (getD (t .ends) k 0) 0)
+      && usable (netIn p t) k)
+  unfolding offends
+  offends-reads =
+      rw (
+        read-row ds long (getD (t .starts) k 0) (p .mark) (start-has-row proper is-link),
+        read-row ds long (getD (t .ends) k 0) (p .mark) (end-has-row proper is-link),
+      )
+
+offended-more : {N : Net} {dist : ℕ → ℕ} {n v : ℕ} → Offended N dist n v → Offended N dist (n + 1) v
+offended-more o = record { link = o .link; is-link = omega (arith, o .is-link); ends-at = o .ends-at; offends = o .offends }
+
+-- no link yet
+pub least-none : (N : Net) (dist : ℕ → ℕ) → LeastOffended N dist 0 mostNodes
+least-none N dist = record {
+  within = omega arith;
+  least = λ k l o. absurd (omega arith);
+  offended = λ l. absurd (omega arith);
+}
+
+-- a link more that ends no sooner
+pub least-later : {N : Net} {dist : ℕ → ℕ} {n v : ℕ} → LeastOffended N dist n v
+    → (offends N dist n ≡ true → v ≤ N .end n) → LeastOffended N dist (n + 1) v
+least-later {N} {dist} {n} {v} h later = record {
+  within = h .within;
+  least = below-more (λ (k : ℕ). offends N dist k ≡ true → v ≤ N .end k) n (h .least) later;
+  offended = λ l. offended-more (h .offended l);
+}
+
+-- a link more that offers its end nothing less
+pub least-skip : {N : Net} {dist : ℕ → ℕ} {n v : ℕ} {b : Bool} → LeastOffended N dist n v
+    → b ≡ offends N dist n → b ≡ false → LeastOffended N dist (n + 1) v
+least-skip h is fails = least-later h (λ o. absurd (true≢false (cc)))
+
+-- a link more that offers its end less, and ends sooner
+pub least-take : {N : Net} {dist : ℕ → ℕ} {n v : ℕ} {b : Bool} → LeastOffended N dist n v
+    → b ≡ offends N dist n → b ≡ true → N .end n < v → LeastOffended N dist (n + 1) (N .end n)
+least-take {N} {dist} {n} {v} h is passes sooner = record {
+  within = omega (arith, h .within);
+  least =
+      below-more (λ (k : ℕ). offends N dist k ≡ true → N .end n ≤ N .end k) n
+      (λ k l o. omega (arith, h .least k l o))
+      (λ o. omega arith);
+  offended = λ l. record { link = n; is-link = omega arith; ends-at = refl; offends = cc };
+}

@@ -1,0 +1,40 @@
+-- The pass over the links: which nodes a link offers less than they have. Assumes nothing.
+use mathlib.Core.Path.{_≡_}
+use mathlib.Core.Bool.{Bool, true, _&&_, _||_, not}
+use Prim.Native.Nat.{ℕ, _+_, _≤_, _<_}
+use lib.Dec.{eqb, ltb}
+use Rattle.rules.specs.Net.{Net}
+use Rattle.rules.specs.Tests.{usable}
+use Rattle.rules.specs.Columns.{mostNodes}
+
+-- a sum over a link from a node at this distance makes a route: the node is reached, and the sum below the ceiling
+abbrev pub counts : ℕ → ℕ → ℕ → ℕ → Bool
+counts mark ceiling from sum = not (eqb from mark) && ltb sum ceiling
+
+-- a node at distance to has more than a sum, or is unreached
+abbrev pub hasMore : ℕ → ℕ → ℕ → Bool
+hasMore mark sum to = ltb sum to || eqb to mark
+
+-- a link of this cost, from a node at one distance, offers a node at another less than it has, or enters it though
+-- it is unreached: if the link is usable
+unfoldable pub offersLess : ℕ → ℕ → ℕ → ℕ → ℕ → Bool
+offersLess mark ceiling from cost to = counts mark ceiling from (from + cost) && hasMore mark (from + cost) to
+
+module _ (N : Net) (dist : ℕ → ℕ) where
+  -- link k does, and is
+  unfoldable pub offends : ℕ → Bool
+  unfolding offersLess usable
+  offends k = offersLess (N .mark) (N .ceiling) (dist (N .start k)) (N .cost k) (dist (N .end k)) && usable N k
+
+  -- one of the first n links offends its end v
+  pub record Offended (n v : ℕ) : Type 0 where
+    pub link : ℕ
+    pub is-link : link < n
+    pub ends-at : N .end link ≡ v
+    pub offends : offends link ≡ true
+
+  -- the smallest node that one of the first n links offers less than it has, or 256
+  pub record LeastOffended (n v : ℕ) : Type 0 where
+    pub within : v ≤ mostNodes
+    pub least : (k : ℕ) → k < n → offends k ≡ true → v ≤ N .end k
+    pub offended : v < mostNodes → Offended n v
