@@ -1,3 +1,2 @@
--- What 01-scope.md says of the printed lines, as definitions, in reading order. Theorems about them stand in proofs/.
+-- What 01-scope.md says of the printed lines, as definitions. Their words stand in the crate `words`.
 pub mod Lines
-pub mod Putting

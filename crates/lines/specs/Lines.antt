@@ -1,26 +1,14 @@
--- What a record tells, as a line of text, as 01-scope.md says it: numbers in decimal, one space between, `-` for no
--- link. A text is the list of its bytes. Assumes nothing.
-use Prim.Native.Nat.{ℕ, zero, suc, _+_, _/_, _%_}
+-- What a record tells, as a line of text, as 01-scope.md says it: one space between words. Assumes nothing.
+use Prim.Native.Nat.{ℕ}
 use mathlib.Core.List.{List, [], _∷_, _++_, map}
-use lib.Dec.{ltb, eqb}
 use lib.ListN.{take}
-use Rattle.rules.specs.Tests.{pick}
-use Rattle.rules.specs.Columns.{noLink}
+use Rattle.words.specs.Words.{space, decimal, linkText}
 use Rattle.state.specs.declared.Out.{Out}
 use Rattle.state.specs.declared.Out.the-variants.{Nothing, Row, Changed, Refused}
 
--- ASCII's digit, and the other bytes of a line
-abbrev pub digit : ℕ → ℕ
-digit d = 48 + d
-
+-- ASCII's bytes of a line
 abbrev pub newline : ℕ
 newline = 10
-
-abbrev pub space : ℕ
-space = 32
-
-abbrev pub dash : ℕ
-dash = 45
 
 abbrev pub letterA : ℕ
 letterA = 65
@@ -30,19 +18,6 @@ letterN = 78
 
 abbrev pub letterR : ℕ
 letterR = 82
-
--- the digits of a number, of which there are at most so many: the last stands behind those of a tenth of the number
-unfoldable pub decimalIn : ℕ → ℕ → List ℕ
-decimalIn zero n = []
-decimalIn (suc most) n = pick (ltb n 10) (digit n ∷ []) (decimalIn most (n / 10) ++ (digit (n % 10) ∷ []))
-
--- a number in decimal: no number n has more than n + 1 digits
-unfoldable pub decimal : ℕ → List ℕ
-decimal n = decimalIn (suc n) n
-
--- a link's number, or `-` for no link
-abbrev pub linkText : ℕ → List ℕ
-linkText link = pick (eqb link noLink) (dash ∷ []) (decimal link)
 
 -- words, each after one space, to the end of the line
 abbrev pub ending : List (List ℕ) → List ℕ

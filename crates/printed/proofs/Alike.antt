@@ -34,7 +34,8 @@ use Rattle.session.specs.Steps.{linkVerdict, linkLists, changeVerdict, changeLi
 use Rattle.order.specs.Order.{inOrder}
 use Rattle.session.specs.Holding.{Lists, lists}
 use Rattle.enter.proofs.Entries.{entry-written}
-use Rattle.lines.specs.Lines.{decimal, letterA, ending, lineOf}
+use Rattle.words.specs.Words.{decimal}
+use Rattle.lines.specs.Lines.{letterA, ending, lineOf}
 use Rattle.printed.proofs.Runs.{unlike}
 use Rattle.printed.proofs.Ways.{Does, Way, late, does, way}
 

@@ -4,8 +4,8 @@ use mathlib.Core.List.{List, [], _∷_, _++_}
 use Prim.Native.Nat.{ℕ, zero, suc, _+_, _*_, _-_, _<_, _≤_, _/_, _%_}
 use native.Mathlib.Omega.{arith}
 use native.Mathlib.Decide.{decLt}
-use Rattle.lines.specs.Lines.{decimal, digit}
-use Rattle.lines.proofs.Laws.{one-digit, more-digits}
+use Rattle.words.specs.Words.{decimal, digit}
+use Rattle.words.proofs.Laws.{one-digit, more-digits}
 
 -- the number that a text of digits says, behind digits that say another
 abbrev pub said : ℕ → List ℕ → ℕ

@@ -14,10 +14,10 @@ use Rattle.session.specs.Holding.{Lists, Holds}
 use Rattle.session.proofs.Keeps.{columns-of, lent-of}
 use Rattle.outcomes.proofs.OneOutcome.{steps-once}
 use Rattle.lines.specs.Lines.{lineOf}
-use Rattle.lines.proofs.Laws.{put-once}
-use Rattle.turns.specs.declared.Turn.{Turn}
+use Rattle.words.proofs.Laws.{put-once}
+use Rattle.turn.specs.declared.Turn.{Turn}
 use Rattle.state.specs.States.{isRefusal, goesOn}
-use Rattle.turns.specs.Turns.{Turns, too-long, reads, Turned}
+use Rattle.turn.specs.Turns.{Turns, too-long, reads, Turned}
 use Rattle.turns.specs.Filling.{Tells, none, then, Filled}
 use Rattle.printed.specs.Prints.{Prints}
 use Rattle.printed.proofs.Runs.{Runs, last, more, runs}

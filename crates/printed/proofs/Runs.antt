@@ -20,7 +20,7 @@ use Rattle.session.specs.Holding.{Lists}
 use Rattle.session.specs.Steps.{Steps, out-of-order, unknown as unknown-kind, cut as cut-short, ended, network, link, change, apply, ask}
 use Rattle.lines.specs.Lines.{lineOf, refusalLine}
 use Rattle.turns.proofs.Moves.{tells-on, tells-within}
-use Rattle.turns.specs.Turns.{mostBytes, Turns, too-long, reads}
+use Rattle.turn.specs.Turns.{mostBytes, Turns, too-long, reads}
 use Rattle.turns.specs.Filling.{Tells, none, then}
 use Rattle.printed.specs.Prints.{Prints}
 

@@ -4,8 +4,9 @@ use mathlib.Core.List.{List, [], _∷_, _++_}
 use Prim.Native.Nat.{ℕ, _≤_, _/_, _%_}
 use native.Mathlib.Omega.{arith}
 use Rattle.state.specs.declared.Out.the-variants.{Nothing, Row, Changed, Refused}
-use Rattle.lines.specs.Lines.{decimal, decimalIn, digit, linkText, lineOf}
-use Rattle.lines.proofs.Laws.{one-digit, more-digits}
+use Rattle.words.specs.Words.{decimal, decimalIn, digit, linkText}
+use Rattle.lines.specs.Lines.{lineOf}
+use Rattle.words.proofs.Laws.{one-digit, more-digits}
 
 -- a digit more
 then : (n : ℕ) {front : List ℕ} → 10 ≤ n → decimal (n / 10) ≡ front → decimal n ≡ front ++ (digit (n % 10) ∷ [])

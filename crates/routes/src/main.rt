@@ -1,13 +1,25 @@
 // Reads a record stream from standard input and prints a line for what each record tells. What is printed is worked out by
-// `turns::fill`, text after text; here it is only read and written (`Writes`, in the specs of `turns`, is what `run` does).
+// `turns::fill`, text after text; here it is only read and written.
+ghost use Rattle.printed.specs.Prints.{Written};
 use state::State;
 
 const STDIN: i32 = 0;
 
 const STDOUT: i32 = 1;
 
-// A failed write ends the run.
-fn run(stream: &[u8]) {
+// Once a write has failed nothing more is written.
+fn write(writing: bool, text: &[u8]) -> bool {
+    if !writing {
+        return false;
+    }
+    io::write_all(STDOUT, text)
+}
+
+// What the stream prints, written part after part. No contract speaks of what a process writes; this one says that the
+// parts handed to `write`, one behind the other, are what the stream prints.
+fn run(stream: &[u8])
+    ensures { λ r. ⌜ Written (now (stream .entry)) ⌝ }
+{
     let mut starts = [0u16; 4096];
     let mut ends = [0u16; 4096];
     let mut costs = [0u16; 4096];
@@ -18,6 +30,7 @@ fn run(stream: &[u8]) {
     let mut state = State::start();
     let mut place: usize = 0;
     let mut more = true;
+    let mut writing = true;
     while more {
         let part = turns::fill(
             stream,
@@ -32,9 +45,7 @@ fn run(stream: &[u8]) {
             &mut text,
         );
         let end = part.end;
-        if !io::write_all(STDOUT, &text[..end]) {
-            return;
-        }
+        writing = write(writing, &text[..end]);
         state = part.state;
         place = part.next;
         more = part.more;

@@ -1,105 +1,24 @@
--- What a turn's line can be, and where a turn leads. Assumes nothing.
+-- Turn after turn: what they told stands at the front of the text, and what is left to read falls. Assumes nothing.
 use mathlib.Core.Path.{_≡_, refl, sym, ap, _∙_}
 use mathlib.Core.Bool.{Bool, true, false}
 use mathlib.Core.List.{List, [], _++_}
 use Prim.Native.Nat.{ℕ, suc, _+_, _-_, _≤_, _<_}
 use native.Mathlib.Omega.{arith}
+use borrow.Author.Tests.{leb-false}
 use lib.Dec.{leb}
-use lib.ListN.{length, drop, length-append}
+use lib.ListN.{length}
 use Rattle.rules.specs.Tests.{pick}
-use Rattle.rules.specs.Jobs.{written, changedBelow}
-use Rattle.rules.specs.Refusals.{Verdict, accepted, refused, judgeLinks}
-use Rattle.rules.specs.Columns.{table, rowsOf}
-use Rattle.rules.proofs.Accepted.{update-accept}
-use Rattle.tree.specs.Value.{valueOf}
-use Rattle.stream.specs.declared.Item.{Item}
-use Rattle.stream.specs.declared.Read.{Read}
-use Rattle.stream.specs.Records.{readAt}
-use Rattle.state.specs.declared.Out.{Out}
-use Rattle.state.specs.declared.Out.the-variants.{Nothing, Row, Changed, Refused}
-use Rattle.state.specs.declared.State.{State}
-use Rattle.state.specs.declared.Done.{Done}
-use Rattle.state.specs.States.{networked, linked, changing, goesOn}
-use Rattle.session.specs.Steps.{linkVerdict, changeVerdict, Applied, Steps, out-of-order, unknown, cut, ended, network, link, change, apply, ask}
-use Rattle.session.specs.Holding.{Lists, lists, Holds}
-use Rattle.session.proofs.Keeps.{columns-of, lent-of}
 use Rattle.splits.proofs.Splits.{Moves, both}
-use Rattle.lines.specs.Lines.{lineOf, refusalLine, entriesIn, lineRoom}
-use Rattle.lines.specs.Putting.{Put}
-use Rattle.lines.proofs.Laws.{put-none, put-then, put-length}
-use Rattle.turns.specs.declared.Turn.{Turn}
-use Rattle.turns.specs.Turns.{mostBytes, Turns, too-long, reads, Turned}
+use Rattle.state.specs.declared.State.{State}
+use Rattle.session.specs.Holding.{Lists, Holds}
+use Rattle.session.proofs.Keeps.{columns-of, lent-of}
+use Rattle.words.specs.Putting.{Put}
+use Rattle.words.proofs.Laws.{put-none, put-then, put-length}
+use Rattle.lines.specs.Lines.{lineRoom}
+use Rattle.turn.specs.declared.Turn.{Turn}
+use Rattle.turn.specs.Turns.{Turned}
 use Rattle.turns.specs.Filling.{Tells, none, then, Part, Filled}
 use Rattle.turns.proofs.Moves.{moves-on, tells-moves}
-
--- ---- a line tells at most the entries that the list has
-
-network-none : (v : Verdict) (s : State) (nodes root n : ℕ) → entriesIn (networked v s nodes root .out) ≤ n
-network-none accepted s nodes root n = omega arith
-network-none (refused number value) s nodes root n = omega arith
-
-link-none : (v : Verdict) (s : State) (n : ℕ) → entriesIn (linked v s .out) ≤ n
-link-none accepted s n = omega arith
-link-none (refused number value) s n = omega arith
-
-change-none : (v : Verdict) (s : State) (n : ℕ) → entriesIn (changing v s .out) ≤ n
-change-none accepted s n = omega arith
-change-none (refused number value) s n = omega arith
-
-ask-none : (past : Bool) (node dist parent first n : ℕ) → entriesIn (pick past (Refused 10) (Row node dist parent first)) ≤ n
-ask-none true node dist parent first n = omega arith
-ask-none false node dist parent first n = omega arith
-
-front-fits : (front list listed : List ℕ) (count : ℕ) → listed ≡ written front list → count ≡ length front → count ≤ length listed
-front-fits front list listed count e n = omega (arith, ap length e, length-append front (drop (length front) list))
-
-applied-fits : {s : State} {starts ends costs changed newcosts list : List ℕ} {done : Done} {costs' list' : List ℕ}
-    → Applied s starts ends costs changed newcosts list done costs' list' → entriesIn (done .out) ≤ length list'
-applied-fits {s} {list = list} {done} {list' = list'} a =
-    let up = update-accept (a .updated) refl in
-    let told = changedBelow (rowsOf (valueOf (s .tree))) (rowsOf (valueOf (done .state .tree))) (s .nodes) in
-    rw (ap (λ (x : Done). x .out) (a .kept)) (front-fits told list list' (a .count) (up .listed) (up .count))
-
-entries-listed : {s : State} {k : Lists} {item : Item} {done : Done} {after : Lists} → Steps s k item done after
-    → entriesIn (done .out) ≤ length (after .list)
-entries-listed (out-of-order e) = omega arith
-entries-listed unknown = omega arith
-entries-listed cut = omega arith
-entries-listed (ended e) = omega arith
-entries-listed {s} (network {nodes} {root} e) = network-none (judgeLinks (table nodes root [] [] [])) s nodes root _
-entries-listed {s} {k} (link {start} {end} {cost} e) = link-none (linkVerdict s k start end cost) s _
-entries-listed {s} {k} (change {link = named} {cost} {r} ready) = change-none (changeVerdict r k named cost) r _
-entries-listed (apply r a) = applied-fits a
-entries-listed (ask {node} {r} ready) =
-    let rows = rowsOf (valueOf (r .tree)) in
-    ask-none (leb (r .nodes) node) node (rows .dist node) (rows .parent node) (rows .first node) _
-
--- what the line of a record asks of the list
-pub entries : {s : State} {k : Lists} {item : Item} {done : Done} {after : Lists} → Steps s k item done after → Holds (done .state) after
-    → (entriesIn (done .out) ≤ 256) × (entriesIn (done .out) ≤ length (after .list))
-entries steps holds =
-    let listed = entries-listed steps in
-    (omega (arith, lent-of holds .list-long), listed)
-
--- ---- the two ways of a turn
-
-module _ {stream : List ℕ} {place : ℕ} {s : State} {k : Lists} {before : List ℕ} {at : ℕ} {text : List ℕ} {end : ℕ} where
-  pub turned-too-long : mostBytes < length stream → Holds s k → Put before at (refusalLine 24 mostBytes) text end
-      → Turned stream place s k before at (record { state = s; next = place; end = end; more = false }) k text
-  turned-too-long long holds put = record { line = refusalLine 24 mostBytes; turns = too-long long; put = put; holds = holds }
-
-  pub turned-reads : {read : Read} {done : Done} {after : Lists} {more : Bool} → length stream ≤ mostBytes → read ≡ readAt stream place
-      → Steps s k (read .item) done after → Holds (done .state) after → more ≡ goesOn (read .item) (done .out)
-      → Put before at (lineOf (done .out) (after .list) place) text end
-      → Turned stream place s k before at (record { state = done .state; next = read .next; end = end; more = more }) after text
-  turned-reads {done = done} {after = after} few is steps holds goes put = record {
-    line = lineOf (done .out) (after .list) place;
-    turns = rw (goes, is) (reads few (rw is at steps));
-    put = put;
-    holds = holds;
-  }
-
--- ---- turn after turn
 
 -- the lent lists and the text keep their lengths
 pub record Kept (k after : Lists) (before text : List ℕ) : Type 0 where
@@ -182,9 +101,9 @@ module _ {stream : List ℕ} {place : ℕ} {s : State} {k : Lists} {before : Lis
   filled-ended (begun b) ends = record { part = b; full = λ goes. absurd (both goes ends) }
 
   pub filled-full : {turn : Turn} {after : Lists} {text : List ℕ} → Filling stream place s k before turn after text → lineRoom ≤ length before
-      → length text - turn .end < lineRoom → Filled stream place s k before turn after text
-  filled-full (empty e f g holds) room full = absurd (omega (arith, ap length g, ap (λ (turn : Turn). turn .end) e))
-  filled-full (begun b) room full = record { part = b; full = λ goes. omega (arith, put-length (b .put)) }
+      → leb (turn .end + lineRoom) (length text) ≡ false → Filled stream place s k before turn after text
+  filled-full {turn} {text = text} (empty e f g holds) room full = absurd (omega (arith, leb-false (turn .end + lineRoom) (length text) full, ap length g, ap (λ (turn : Turn). turn .end) e))
+  filled-full {turn} {text = text} (begun b) room full = record { part = b; full = λ goes. omega (arith, leb-false (turn .end + lineRoom) (length text) full, put-length (b .put)) }
 
 -- what is left to read, 0 where there is no more
 abbrev pub left : List ℕ → ℕ → Bool → ℕ

@@ -10,7 +10,7 @@ use Rattle.splits.proofs.Stands.{standing}
 use Rattle.splits.proofs.Splits.{both, Moves, moves}
 use Rattle.state.specs.declared.State.{State}
 use Rattle.session.specs.Holding.{Lists}
-use Rattle.turns.specs.Turns.{Turns, too-long, reads}
+use Rattle.turn.specs.Turns.{Turns, too-long, reads}
 use Rattle.turns.specs.Filling.{Tells, none, then}
 
 first-true : (a b : Bool) → a && b ≡ true → a ≡ true

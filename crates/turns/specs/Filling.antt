@@ -7,9 +7,9 @@ use lib.ListN.{length}
 use Rattle.state.specs.declared.State.{State}
 use Rattle.session.specs.Holding.{Lists, Holds}
 use Rattle.lines.specs.Lines.{lineRoom}
-use Rattle.lines.specs.Putting.{Put}
-use Rattle.turns.specs.declared.Turn.{Turn}
-use Rattle.turns.specs.Turns.{Turns}
+use Rattle.words.specs.Putting.{Put}
+use Rattle.turn.specs.declared.Turn.{Turn}
+use Rattle.turn.specs.Turns.{Turns}
 
 -- so many turns from a place on tell a text, and lead to a state, lists and a place; and whether there is more
 pub data Tells (stream : List ℕ) (place : ℕ) (s : State) (k : Lists) : ℕ → List ℕ → State → Lists → ℕ → Bool → Type 0 where

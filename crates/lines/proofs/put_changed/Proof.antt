@@ -5,9 +5,11 @@ use native.Mathlib.Omega.{arith}
 use borrow.Author.Needs.{needs}
 use lib.ListN.{take}
 use lib.Seq.{length-take-le, getD-take}
-use Rattle.lines.specs.Lines.{decimal, ending, changedLine}
-use Rattle.lines.specs.Putting.{Room, Put}
-use Rattle.lines.proofs.Laws.{put-then, put-length, room-front, room-rest, changed-room, Listing, listing-none, listing-room, listing-more, listing-end-room, listing-end}
+use Rattle.words.specs.Words.{decimal}
+use Rattle.lines.specs.Lines.{ending, changedLine}
+use Rattle.words.specs.Putting.{Room, Put}
+use Rattle.words.proofs.Laws.{put-then, put-length, room-front, room-rest}
+use Rattle.lines.proofs.Laws.{changed-room, Listing, listing-none, listing-room, listing-more, listing-end-room, listing-end}
 use Rattle.lines.proofs.put_changed.Statement.{statement}
 use Rattle.lines.proofs.put_changed.Tie as tie
 

@@ -1,7 +1,7 @@
 -- `lines::put_line` meets its contract: each arm puts the line of its case. Assumes nothing.
 use native.Mathlib.Omega.{arith}
 use borrow.Author.Needs.{needs}
-use Rattle.lines.proofs.Laws.{put-none}
+use Rattle.words.proofs.Laws.{put-none}
 use Rattle.lines.proofs.put_line.Statement.{statement}
 use Rattle.lines.proofs.put_line.Tie as tie
 

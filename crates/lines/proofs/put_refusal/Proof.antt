@@ -2,9 +2,11 @@
 use mathlib.Core.List.{[], _∷_}
 use native.Mathlib.Omega.{arith}
 use borrow.Author.Needs.{needs}
-use Rattle.lines.specs.Lines.{decimal, ending, refusalLine}
-use Rattle.lines.specs.Putting.{Room}
-use Rattle.lines.proofs.Laws.{put-then, room-front, room-rest, refusal-room}
+use Rattle.words.specs.Words.{decimal}
+use Rattle.lines.specs.Lines.{ending, refusalLine}
+use Rattle.words.specs.Putting.{Room}
+use Rattle.words.proofs.Laws.{put-then, room-front, room-rest}
+use Rattle.lines.proofs.Laws.{refusal-room}
 use Rattle.lines.proofs.put_refusal.Statement.{statement}
 use Rattle.lines.proofs.put_refusal.Tie as tie
 

@@ -2,9 +2,11 @@
 use mathlib.Core.List.{[], _∷_}
 use native.Mathlib.Omega.{arith}
 use borrow.Author.Needs.{needs}
-use Rattle.lines.specs.Lines.{decimal, linkText, ending, newline, rowLine}
-use Rattle.lines.specs.Putting.{Room}
-use Rattle.lines.proofs.Laws.{put-then, room-front, room-rest, row-room}
+use Rattle.words.specs.Words.{decimal, linkText}
+use Rattle.lines.specs.Lines.{ending, newline, rowLine}
+use Rattle.words.specs.Putting.{Room}
+use Rattle.words.proofs.Laws.{put-then, room-front, room-rest}
+use Rattle.lines.proofs.Laws.{row-room}
 use Rattle.lines.proofs.put_row.Statement.{statement}
 use Rattle.lines.proofs.put_row.Tie as tie
 

@@ -1,9 +1,10 @@
 -- `turns::fill` meets its contract: the invariant is what is told so far, and each turn tells one line more. What is left to
 -- read falls. Assumes nothing.
-use mathlib.Core.Path.{refl}
-use native.Mathlib.Omega.{arith}
+use mathlib.Core.Path.{refl, sym, _∙_}
 use borrow.Author.Needs.{needs}
+use borrow.Author.Tests.{leb-true, not-false}
 use Rattle.session.specs.Holding.{lists}
+use Rattle.session.proofs.Keeps.{not-true}
 use Rattle.turns.proofs.Laws.{Kept, Filling, empty, filling-kept, filling-holds, filling-end, filling-more, filled-ended, filled-full, left, turn-less}
 use Rattle.turns.proofs.fill.Statement.{statement}
 use Rattle.turns.proofs.fill.Tie as tie
@@ -22,8 +23,8 @@ loop-holds c =
     let filling = empty refl refl refl holds in
     (filling, filling-kept filling holds)
 
-sub-if1 : tie.Need-sub-if1 Inv-loop μ-loop
-sub-if1 c = filling-end (c .before .loop .inv .0)
+has-room-requires : tie.Need-has-room-requires Inv-loop μ-loop
+has-room-requires c κs = filling-end (c .before .loop .inv .0)
 
 same-length : tie.Need-same-length Inv-loop μ-loop
 same-length c = search needs
@@ -47,12 +48,12 @@ same-length-7 : tie.Need-same-length-7 Inv-loop μ-loop
 same-length-7 c = search needs
 
 returns : tie.Need-returns Inv-loop μ-loop
-returns c = filled-full (c .before .before .loop .inv .0) (c .before .before .before .before .before .before .before .before .before .before .before .pre .1) (c .if1 .taken)
+returns c = filled-full (c .before .before .before .loop .inv .0) (c .before .before .before .before .before .before .before .before .before .before .before .before .pre .1) (sym (c .before .has-room .ensures) ∙ not-true _ (c .if1 .taken))
 
 take-turn-requires : tie.Need-take-turn-requires Inv-loop μ-loop
 take-turn-requires c κs =
     let filling = c .before .before .before .before .before .before .before .before .before .before .loop .inv .0 in
-    (filling-holds filling, omega (arith, filling-end filling, c .before .before .before .before .before .before .before .before .if1 .left))
+    (filling-holds filling, leb-true _ _ (sym (c .before .before .before .before .before .before .before .before .has-room .ensures) ∙ not-false _ (c .before .before .before .before .before .before .before .if1 .left)))
 
 loop-less : tie.Need-loop-less Inv-loop μ-loop
 loop-less c = turn-less (c .before .before .before .before .before .before .before .before .before .before .before .before .before .before .before .before .before .before .before .before .before .before .before .before .loop-test .taken) (c .before .before .before .before .before .before .before .before .before .before .before .before .before .before .take-turn .ensures)
@@ -60,8 +61,8 @@ loop-less c = turn-less (c .before .before .before .before .before .before .befo
 loop-again : tie.Need-loop-again Inv-loop μ-loop
 loop-again c =
     let before = c .before .before .before .before .before .before .before .before .before .before .before .before .before .before .before .before .before .before .before .before .before .before .before .before .before .loop .inv .0 in
-    let room = c .before .before .before .before .before .before .before .before .before .before .before .before .before .before .before .before .before .before .before .before .before .before .before .if1 .left in
-    let filling = filling-more before (c .before .before .before .before .before .before .before .before .before .before .before .before .before .before .before .before .before .before .before .before .before .before .before .before .loop-test .taken) (omega (arith, filling-end before)) (c .before .before .before .before .before .before .before .before .before .before .before .before .before .before .take-turn .ensures) in
+    let room = leb-true _ _ (sym (c .before .before .before .before .before .before .before .before .before .before .before .before .before .before .before .before .before .before .before .before .before .before .before .has-room .ensures) ∙ not-false _ (c .before .before .before .before .before .before .before .before .before .before .before .before .before .before .before .before .before .before .before .before .before .before .if1 .left)) in
+    let filling = filling-more before (c .before .before .before .before .before .before .before .before .before .before .before .before .before .before .before .before .before .before .before .before .before .before .before .before .loop-test .taken) room (c .before .before .before .before .before .before .before .before .before .before .before .before .before .before .take-turn .ensures) in
     (filling, filling-kept filling (c .before .before .before .before .before .before .before .before .before .before .before .before .before .before .before .before .before .before .before .before .before .before .before .before .before .before .before .before .before .before .before .before .before .before .pre .0))
 
 same-length-8 : tie.Need-same-length-8 Inv-loop μ-loop
@@ -95,7 +96,7 @@ fill-spec =
     Inv-loop
     μ-loop
     loop-holds
-    sub-if1
+    has-room-requires
     same-length
     same-length-2
     same-length-3

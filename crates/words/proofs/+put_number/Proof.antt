@@ -1,4 +1,4 @@
--- `lines::put_number` meets its contract: the last digit stands behind the digits of a tenth of the number. The measure is
+-- `words::put_number` meets its contract: the last digit stands behind the digits of a tenth of the number. The measure is
 -- the number. Assumes nothing.
 use Prim.Native.Nat.{ℕ, _<_, _/_, _%_}
 use mathlib.Core.Path.{_≡_}
@@ -7,15 +7,15 @@ use native.Mathlib.Omega.{arith}
 use borrow.Author.Needs.{needs}
 use borrow.Fn.Kinds.{In}
 use borrow.Fn.PlainCycle.{Measures, is, falls, and}
-use Rattle.lines.specs.Lines.{digit}
-use Rattle.lines.proofs.Laws.{put-then, room-front, room-rest, one-digit, more-digits}
-use Rattle.lines.proofs.put_number.Reads as put-number
-use Rattle.lines.proofs.put_number.Kinds as put-number-kinds
-use Rattle.lines.proofs.+put_number.Lts-put_number as put-number-lts
-use Rattle.lines.proofs.digit.Reads as digit-reads
-use Rattle.lines.proofs.put_byte.Reads as put-byte-reads
-use Rattle.lines.proofs.+put_number.{statement}
-use Rattle.lines.proofs.+put_number.Tie.{close}
+use Rattle.words.specs.Words.{digit}
+use Rattle.words.proofs.Laws.{put-then, room-front, room-rest, one-digit, more-digits}
+use Rattle.words.proofs.put_number.Reads as put-number
+use Rattle.words.proofs.put_number.Kinds as put-number-kinds
+use Rattle.words.proofs.+put_number.Lts-put_number as put-number-lts
+use Rattle.words.proofs.digit.Reads as digit-reads
+use Rattle.words.proofs.put_byte.Reads as put-byte-reads
+use Rattle.words.proofs.+put_number.{statement}
+use Rattle.words.proofs.+put_number.Tie.{close}
 
 abbrev μ-put-number : Measures 1 put-number-kinds.ps ℕ
 μ-put-number κs a = a .1 .1 .0

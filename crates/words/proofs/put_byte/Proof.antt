@@ -1,8 +1,8 @@
--- `lines::put_byte` meets its contract: one store. Assumes nothing.
+-- `words::put_byte` meets its contract: one store. Assumes nothing.
 use borrow.Author.Needs.{needs}
-use Rattle.lines.proofs.Laws.{put-one}
-use Rattle.lines.proofs.put_byte.Statement.{statement}
-use Rattle.lines.proofs.put_byte.Tie as tie
+use Rattle.words.proofs.Laws.{put-one}
+use Rattle.words.proofs.put_byte.Statement.{statement}
+use Rattle.words.proofs.put_byte.Tie as tie
 
 slice-write-text : tie.Need-slice-write-text
 slice-write-text c = search needs

@@ -10,8 +10,8 @@ use Rattle.state.specs.States.{goesOn}
 use Rattle.session.specs.Holding.{Lists, Holds}
 use Rattle.session.specs.Steps.{Steps}
 use Rattle.lines.specs.Lines.{lineOf, refusalLine}
-use Rattle.lines.specs.Putting.{Put}
-use Rattle.turns.specs.declared.Turn.{Turn}
+use Rattle.words.specs.Putting.{Put}
+use Rattle.turn.specs.declared.Turn.{Turn}
 
 -- a stream for the program has no more bytes
 abbrev pub mostBytes : ℕ

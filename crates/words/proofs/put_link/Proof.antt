@@ -1,14 +1,14 @@
--- `lines::put_link` meets its contract: a space, and behind it what the test for no link says. Assumes nothing.
+-- `words::put_link` meets its contract: a space, and behind it what the test for no link says. Assumes nothing.
 use mathlib.Core.Path.{_≡_}
 use mathlib.Core.List.{[], _∷_}
 use borrow.Author.Needs.{needs}
 use borrow.Author.Tests.{eq-eqb, ne-eqb}
 use Rattle.rules.specs.Columns.{noLink}
-use Rattle.lines.specs.Lines.{linkText}
-use Rattle.lines.specs.Putting.{Room}
-use Rattle.lines.proofs.Laws.{put-then, room-front, room-rest, link-none, link-some}
-use Rattle.lines.proofs.put_link.Statement.{statement}
-use Rattle.lines.proofs.put_link.Tie as tie
+use Rattle.words.specs.Words.{linkText}
+use Rattle.words.specs.Putting.{Room}
+use Rattle.words.proofs.Laws.{put-then, room-front, room-rest, link-none, link-some}
+use Rattle.words.proofs.put_link.Statement.{statement}
+use Rattle.words.proofs.put_link.Tie as tie
 
 -- room behind the space
 rest : (c : tie.After-put-byte) → Room (c .put-byte .last .0) (c .put-byte .result) (linkText (c .before .before .before .args .link))

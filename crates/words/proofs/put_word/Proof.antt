@@ -1,10 +1,10 @@
--- `lines::put_word` meets its contract: a space, and the number behind it. Assumes nothing.
+-- `words::put_word` meets its contract: a space, and the number behind it. Assumes nothing.
 use mathlib.Core.List.{[], _∷_}
 use borrow.Author.Needs.{needs}
-use Rattle.lines.specs.Lines.{decimal}
-use Rattle.lines.proofs.Laws.{put-then, room-front, room-rest}
-use Rattle.lines.proofs.put_word.Statement.{statement}
-use Rattle.lines.proofs.put_word.Tie as tie
+use Rattle.words.specs.Words.{decimal}
+use Rattle.words.proofs.Laws.{put-then, room-front, room-rest}
+use Rattle.words.proofs.put_word.Statement.{statement}
+use Rattle.words.proofs.put_word.Tie as tie
 
 put-byte-requires : tie.Need-put-byte-requires
 put-byte-requires c κs = room-front (decimal (c .before .before .args .n)) (c .before .before .pre)

@@ -1,8 +1,8 @@
--- `turns::take_turn` meets its contract: it goes one of the two ways of a turn. Assumes nothing.
+-- `turn::take_turn` meets its contract: it goes one of the two ways of a turn. Assumes nothing.
 use borrow.Author.Needs.{needs}
-use Rattle.turns.proofs.Laws.{entries, turned-too-long, turned-reads}
-use Rattle.turns.proofs.take_turn.Statement.{statement}
-use Rattle.turns.proofs.take_turn.Tie as tie
+use Rattle.turn.proofs.Laws.{entries, turned-too-long, turned-reads}
+use Rattle.turn.proofs.take_turn.Statement.{statement}
+use Rattle.turn.proofs.take_turn.Tie as tie
 
 put-line-requires : tie.Need-put-line-requires
 put-line-requires c κs = search needs
@@ -14,7 +14,7 @@ same-length-2 : tie.Need-same-length-2
 same-length-2 c = search needs
 
 returns : tie.Need-returns
-returns c = turned-too-long (c .before .before .before .before .before .if1 .taken) (c .before .before .before .before .before .before .before .before .before .before .before .before .before .before .pre .0) (c .before .before .put-line .ensures)
+returns c = turned-too-long (c .before .before .before .before .before .if1 .taken) (c .before .before .before .before .before .before .before .before .before .before .before .before .before .before .before .pre .0) (c .before .before .put-line .ensures)
 
 read-at-requires : tie.Need-read-at-requires
 read-at-requires c κs = search needs
@@ -26,7 +26,7 @@ put-line-requires-2 : tie.Need-put-line-requires-2
 put-line-requires-2 c κs =
     let step = c .before .before .before .before .before .before .before .before .before .before .before .before .before .before .before .step .ensures in
     let few = entries (step .0) (step .1) in
-    (c .before .before .before .before .before .before .before .before .before .before .before .before .before .before .before .before .before .before .before .before .before .before .before .before .before .before .before .before .before .before .before .before .pre .1, few .0, few .1)
+    (c .before .before .before .before .before .before .before .before .before .before .before .before .before .before .before .before .before .before .before .before .before .before .before .before .before .before .before .before .before .before .before .before .before .pre .1, few .0, few .1)
 
 goes-on-requires : tie.Need-goes-on-requires
 goes-on-requires c κs = search needs

@@ -1,0 +1,2 @@
+-- The lemmas that the function's proof shares.
+pub mod Laws

@@ -1,0 +1,64 @@
+// One turn of a stream: the item at a place is read, does what it does, and its line is put into a lent text.
+ghost use Prim.Native.Nat.{_+_, _≤_};
+ghost use lib.ListN.{length};
+ghost use Rattle.session.specs.Holding.{lists, Holds};
+ghost use Rattle.lines.specs.Lines.{lineRoom};
+ghost use Rattle.turn.specs.Turns.{Turned};
+use state::Out;
+use state::State;
+
+// A stream for the program has no more bytes.
+const MOST_BYTES: usize = 32_768;
+
+// Where the turns so far have led.
+pub struct Turn {
+    pub state: State,
+    // The place of the next item.
+    pub next: usize,
+    // The place in the text behind the last line.
+    pub end: usize,
+    // Whether there is a next turn: none at the end of the stream and none after a refusal.
+    pub more: bool,
+}
+
+// The turn behind the turns so far. A stream that is too long is told at once, whatever the place.
+pub fn take_turn(
+    stream: &[u8],
+    so_far: Turn,
+    starts: &mut [u16],
+    ends: &mut [u16],
+    costs: &mut [u16],
+    changed: &mut [u16],
+    newcosts: &mut [u16],
+    list: &mut [u16],
+    text: &mut [u8],
+) -> Turn
+    requires { ⌜ Holds («so_far» .state) (lists (now starts) (now ends) (now costs) (now changed) (now newcosts) (now list)) × («so_far» .end + lineRoom ≤ length (now text)) ⌝ }
+    ensures { λ r. ⌜ Turned (now (stream .entry)) («so_far» .next) («so_far» .state) (lists (now (starts .entry)) (now (ends .entry)) (now (costs .entry)) (now (changed .entry)) (now (newcosts .entry)) (now (list .entry))) (now (text .entry)) («so_far» .end) r (lists (now (starts .exit)) (now (ends .exit)) (now (costs .exit)) (now (changed .exit)) (now (newcosts .exit)) (now (list .exit))) (now (text .exit)) ⌝ }
+{
+    let place = so_far.next;
+    let at = so_far.end;
+    let state = so_far.state;
+    if stream.len() > MOST_BYTES {
+        let refusal = Out::Refused { number: 24 };
+        let end = lines::put_line(text, at, refusal, list, MOST_BYTES);
+        return Turn {
+            state: state,
+            next: place,
+            end: end,
+            more: false,
+        };
+    }
+    let read = stream::read_at(stream, place);
+    let item = read.item;
+    let done = session::step(state, item, starts, ends, costs, changed, newcosts, list);
+    let after = done.state;
+    let out = done.out;
+    let end = lines::put_line(text, at, out, list, place);
+    Turn {
+        state: after,
+        next: read.next,
+        end: end,
+        more: state::goes_on(item, out),
+    }
+}

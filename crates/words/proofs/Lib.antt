@@ -1,0 +1,2 @@
+-- The lemmas that the functions' proofs share.
+pub mod Laws
