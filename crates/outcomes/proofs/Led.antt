@@ -121,7 +121,7 @@ led-stands u (next led (ask ready)) q = ready-given (λ o. led-stands u led o) r
 -- ---- ASK
 
 -- a 16-bit column has a 16-bit front
-narrow-front : (n : ℕ) {costs : List ℕ} → Narrow costs → Narrow (take n costs)
+pub narrow-front : (n : ℕ) {costs : List ℕ} → Narrow costs → Narrow (take n costs)
 narrow-front n {costs} c = record { narrow = λ i. at i (decLt i n) }
   where
     at : (i : ℕ) → Dec (i < n) → getD (take n costs) i 0 ≤ mostCost

@@ -2,3 +2,4 @@
 pub mod OneOutcome
 pub mod Listed
 pub mod Led
+pub mod Costs

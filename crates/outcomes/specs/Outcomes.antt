@@ -6,12 +6,12 @@ use mathlib.Core.Bool.{true, false}
 use mathlib.Core.List.{List, [], _∷_}
 use Prim.Native.Nat.{ℕ, _≤_}
 use lib.ListN.{length}
-use Rattle.rules.specs.Columns.{netOf, rowsOf, mostLinks, mostRows}
+use Rattle.rules.specs.Columns.{netOf, rowsOf, mostLinks, mostRows, mostCost}
 use Rattle.rules.specs.Jobs.{written}
-use Rattle.rules.specs.Demands.{Stands, LeastSums, Names, Stable}
+use Rattle.rules.specs.Demands.{Stands, LeastSums, Names, Stable, Narrow}
 use Rattle.tree.specs.Value.{valueOf}
 use Rattle.stream.specs.declared.Item.{Item}
-use Rattle.stream.specs.declared.Item.the-variants.{Network, Link, Change, Ask, UnknownKind, CutShort}
+use Rattle.stream.specs.declared.Item.the-variants.{Network, Link, Change, Apply, Ask, End, UnknownKind, CutShort}
 use Rattle.state.specs.declared.Out.the-variants.{Row, Changed}
 use Rattle.state.specs.declared.State.{State}
 use Rattle.state.specs.declared.Done.{Done}
@@ -68,3 +68,19 @@ pub record Reports (s : State) (k : Lists) (d : Done) (l : Lists) : Type 0 where
   pub listed : l .list ≡ written changed (k .list)
   pub names : Names (rowsOf (valueOf (met .tree))) (rowsOf (valueOf (d .state .tree))) changed
   pub stable : Stable (netOf (tableOf (d .state) (l .starts) (l .ends) (l .costs))) (rowsOf (valueOf (met .tree)) .parent) (rowsOf (valueOf (d .state .tree)))
+
+-- a LINK's or CHANGE's cost is a 16-bit number
+abbrev pub CostFits : Item → Type 0
+CostFits (Network nodes root) = Unit {0}
+CostFits (Link start end cost) = cost ≤ mostCost
+CostFits (Change link cost) = cost ≤ mostCost
+CostFits Apply = Unit {0}
+CostFits (Ask node) = Unit {0}
+CostFits End = Unit {0}
+CostFits (UnknownKind place) = Unit {0}
+CostFits (CutShort place) = Unit {0}
+
+-- and so are the costs that stand in the lent columns
+pub record CostsFit (k : Lists) : Type 0 where
+  pub costs : Narrow (k .costs)
+  pub newcosts : Narrow (k .newcosts)

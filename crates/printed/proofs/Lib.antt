@@ -6,3 +6,4 @@ pub mod Written
 pub mod Ways
 pub mod Alike
 pub mod Once
+pub mod Costs

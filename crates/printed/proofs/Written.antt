@@ -10,6 +10,7 @@ use lib.Seq.{take-at}
 use Rattle.order.specs.declared.Phase.the-variants.{Unread}
 use Rattle.state.specs.declared.State.{State}
 use Rattle.session.specs.Holding.{Lists, Holds}
+use Rattle.outcomes.specs.Outcomes.{CostsFit}
 use Rattle.words.specs.Putting.{Put}
 use Rattle.turn.specs.declared.Turn.{Turn}
 use Rattle.turns.specs.Filling.{Tells, none, then, Filled}
@@ -46,6 +47,7 @@ written-prints w =
       lent = w .lent;
       unread = w .unread;
       holds = w .holds;
+      fits = w .fits;
       turns = all .turns;
       last = w .last;
       after = w .after;
@@ -62,11 +64,13 @@ pub record Writing (stream : List ℕ) (r : State) (after : Lists) (place : ℕ)
   pub lent : Lists
   pub unread : state .phase ≡ Unread
   pub begins : Holds state lent
+  pub fits : CostsFit lent
   pub writes : Writes stream state lent text r after place goes
   pub holds : Holds r after
 
-pub writing-none : {stream : List ℕ} {s : State} {k : Lists} → s .phase ≡ Unread → Holds s k → Writing stream s k 0 true
-writing-none {s = s} {k} unread holds = record { text = []; state = s; lent = k; unread = unread; begins = holds; writes = nothing; holds = holds }
+pub writing-none : {stream : List ℕ} {s : State} {k : Lists} → s .phase ≡ Unread → Holds s k → CostsFit k → Writing stream s k 0 true
+writing-none {s = s} {k} unread holds fits =
+    record { text = []; state = s; lent = k; unread = unread; begins = holds; fits = fits; writes = nothing; holds = holds }
 
 pub writing-more : {stream : List ℕ} {r : State} {after afterwards : Lists} {place : ℕ} {goes : Bool} {before text : List ℕ} {turn : Turn}
     → Writing stream r after place goes → goes ≡ true → Filled stream place r after before turn afterwards text
@@ -77,6 +81,7 @@ writing-more {text = text} {turn} w e f = record {
   lent = w .lent;
   unread = w .unread;
   begins = w .begins;
+  fits = w .fits;
   writes = part (rw e at (w .writes)) f;
   holds = f .part .holds;
 }
@@ -88,6 +93,7 @@ writing-ends {r = r} {after} {place} w e = record {
   lent = w .lent;
   unread = w .unread;
   holds = w .begins;
+  fits = w .fits;
   last = r;
   after = after;
   next = place;

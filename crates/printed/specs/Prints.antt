@@ -7,6 +7,7 @@ use lib.ListN.{take}
 use Rattle.order.specs.declared.Phase.the-variants.{Unread}
 use Rattle.state.specs.declared.State.{State}
 use Rattle.session.specs.Holding.{Lists, Holds}
+use Rattle.outcomes.specs.Outcomes.{CostsFit}
 use Rattle.turn.specs.declared.Turn.{Turn}
 use Rattle.turns.specs.Filling.{Tells, Filled}
 
@@ -16,6 +17,7 @@ pub record Prints (stream text : List ℕ) : Type 0 where
   pub lent : Lists
   pub unread : state .phase ≡ Unread
   pub holds : Holds state lent
+  pub fits : CostsFit lent
   pub turns : ℕ
   pub last : State
   pub after : Lists
@@ -38,6 +40,7 @@ pub record Written (stream : List ℕ) : Type 0 where
   pub lent : Lists
   pub unread : state .phase ≡ Unread
   pub holds : Holds state lent
+  pub fits : CostsFit lent
   pub last : State
   pub after : Lists
   pub next : ℕ

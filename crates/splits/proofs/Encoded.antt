@@ -148,7 +148,7 @@ reads-encoded well = reads-behind [] well
 
 -- ---- records and their bytes fit each other
 
-number-fits : {stream : List ℕ} → AreBytes stream → (place : ℕ) → numberAt stream place < 65536
+pub number-fits : {stream : List ℕ} → AreBytes stream → (place : ℕ) → numberAt stream place < 65536
 number-fits bytes place = omega (arith, bytes .below place, bytes .below (place + 1))
 
 read-fits : {stream : List ℕ} → AreBytes stream → {place : ℕ} {read : Read} → Stands stream place read → isRecord (read .item) ≡ true

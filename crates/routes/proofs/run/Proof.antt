@@ -11,6 +11,7 @@ use Rattle.session.specs.Holding.{lists, unread}
 use Rattle.session.proofs.Keeps.{columns-of, lent-of}
 use Rattle.words.proofs.Laws.{put-length}
 use Rattle.turns.proofs.Laws.{part-end, left, filled-less}
+use Rattle.printed.proofs.Costs.{zeros-fit}
 use Rattle.printed.proofs.Written.{Writing, writing-none, writing-more, writing-ends}
 use Rattle.routes.proofs.run.Statement.{statement}
 use Rattle.routes.proofs.run.Tie as tie
@@ -30,7 +31,7 @@ loop-holds c =
     let phase = ap (λ (x : State). x .phase) (c .start .ensures) in (
       writing-none phase (unread phase
           (record { starts-long = length-replicate {A = ℕ} 4096 0; ends-long = length-replicate {A = ℕ} 4096 0; costs-long = length-replicate {A = ℕ} 4096 0 })
-          (record { changed-long = length-replicate {A = ℕ} 256 0; newcosts-long = length-replicate {A = ℕ} 256 0; list-long = length-replicate {A = ℕ} 256 0 })),
+          (record { changed-long = length-replicate {A = ℕ} 256 0; newcosts-long = length-replicate {A = ℕ} 256 0; list-long = length-replicate {A = ℕ} 256 0 })) (record { costs = zeros-fit 4096; newcosts = zeros-fit 256 }),
       length-replicate {A = ℕ} 32768 0,
     )
 
