@@ -9,7 +9,7 @@ use lib.Seq.{getD-set-same, getD-set-other, set-out, getD-take, getD-drop}
 use Rattle.rules.specs.Columns.{applied, mostCost}
 use Rattle.rules.specs.Refusals.{Verdict, accepted, refused}
 use Rattle.rules.specs.Demands.{Narrow}
-use Rattle.rules.proofs.Demands.{update-accept}
+use Rattle.rules.proofs.Accepted.{update-accept}
 use Rattle.batch.specs.Rows.{rowsOfColumns}
 use Rattle.stream.specs.declared.Item.{Item}
 use Rattle.enter.specs.More.{entered}

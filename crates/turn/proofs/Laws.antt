@@ -10,7 +10,7 @@ use Rattle.rules.specs.Tests.{pick}
 use Rattle.rules.specs.Jobs.{written, changedBelow}
 use Rattle.rules.specs.Refusals.{Verdict, accepted, refused, judgeLinks}
 use Rattle.rules.specs.Columns.{table, rowsOf}
-use Rattle.rules.proofs.Demands.{update-accept}
+use Rattle.rules.proofs.Accepted.{update-accept}
 use Rattle.tree.specs.Value.{valueOf}
 use Rattle.stream.specs.declared.Item.{Item}
 use Rattle.stream.specs.declared.Read.{Read}
