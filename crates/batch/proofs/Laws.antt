@@ -20,7 +20,7 @@ use Rattle.rules.specs.declared.Change.{Change}
 use Rattle.rules.specs.declared.Answer.the-variants.{Accepted, TooManyRows, RowNamesNoLink, RowNamesLinkAgain}
 use Rattle.rules.proofs.Logic.{First, first-is, or-false}
 use Rattle.batch.specs.Rows.{rowsOfColumns, RowsJudged, BatchJudged}
-use Rattle.threads.specs.Threads.{Threaded, Earliest}
+use Rattle.threads.specs.Threads.{threadCount, Threaded, Earliest}
 use Rattle.threads.proofs.Laws.{threaded-none}
 
 -- ---- two columns
@@ -72,7 +72,7 @@ pub record Passed (links : ℕ) (changed newcosts ends before : List ℕ) (i : �
   pub good : (row : ℕ) → row < i → bad links (rowsOfColumns changed newcosts) row ≡ false
   pub threaded : Threaded changed ends before i
 
-pub passed-none : (links : ℕ) (changed newcosts : List ℕ) → Passed links changed newcosts (replicate 256 0) (replicate 256 0) 0
+pub passed-none : (links : ℕ) (changed newcosts : List ℕ) → Passed links changed newcosts (replicate threadCount 0) (replicate mostRows 0) 0
 passed-none links changed newcosts = record {
   within = omega arith;
   good = below-none (λ row. bad links (rowsOfColumns changed newcosts) row ≡ false);

@@ -24,7 +24,7 @@ fn judge_rows(links: usize, changed: &[u16], newcosts: &[u16]) -> Answer
     ensures { λ r. ⌜ RowsJudged links (rowsOfColumns (now (changed .entry)) (now (newcosts .entry))) r ⌝ }
 {
     let rows = row_count(changed, newcosts);
-    let mut ends = [0u16; 256];
+    let mut ends = [0u16; 512];
     let mut before = [0u16; 256];
     let mut i: usize = 0;
     while i < rows {

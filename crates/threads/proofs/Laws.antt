@@ -7,7 +7,8 @@ use native.Mathlib.Omega.{arith}
 use native.Mathlib.Decide.{ℕ-discrete, decLt}
 use lib.ListN.{length, getD, set, replicate, length-set, length-replicate, getD-replicate}
 use lib.Seq.{getD-set-same, getD-set-other}
-use Rattle.threads.specs.Threads.{threadOf, LastOn, Threaded, Earliest}
+use Rattle.rules.specs.Columns.{mostRows}
+use Rattle.threads.specs.Threads.{threadCount, threadOf, LastOn, Threaded, Earliest}
 
 -- at is where the search for a link's row has come to among n rows: none from there on names the link, and the row
 -- before it is on the link's thread
@@ -21,7 +22,7 @@ thread-apart a b n e = n (ap threadOf e)
 
 module _ {links ends before : List ℕ} {n link : ℕ} (t : Threaded links ends before n) where
   -- from the end of the link's thread
-  pub sought-last : threadOf link < 256 → Sought links n link (getD ends (threadOf link) 0)
+  pub sought-last : threadOf link < threadCount → Sought links n link (getD ends (threadOf link) 0)
   sought-last l =
       let last = t .last (threadOf link) l in
       record {
@@ -64,22 +65,22 @@ module _ {links ends before : List ℕ} {n link : ℕ} (t : Threaded links ends 
   }
 
 -- no row yet
-pub threaded-none : (links : List ℕ) → Threaded links (replicate 256 0) (replicate 256 0) 0
+pub threaded-none : (links : List ℕ) → Threaded links (replicate threadCount 0) (replicate mostRows 0) 0
 threaded-none links = record {
   within = omega arith;
-  ends-long = length-replicate {A = ℕ} 256 0;
-  before-long = length-replicate {A = ℕ} 256 0;
+  ends-long = length-replicate {A = ℕ} threadCount 0;
+  before-long = length-replicate {A = ℕ} mostRows 0;
   few = omega arith;
   apart = λ i j l m. absurd (omega arith);
   last = λ k l.
-      rw (getD-replicate {A = ℕ} 256 k 0 0 l)
+      rw (getD-replicate {A = ℕ} threadCount k 0 0 l)
       (record { within = omega arith; on-thread = λ row s. absurd (omega arith); none-later = λ row from below. absurd (omega arith) });
   earlier = λ row l. absurd (omega arith);
 }
 
 -- one row more, that names no link of those before it
-module _ {links ends before : List ℕ} {n : ℕ} (t : Threaded links ends before n) (row : n < length links) (room : n < 256)
-    (thread : threadOf (getD links n 0) < 256) (e : Earliest links n (getD links n 0) n) where
+module _ {links ends before : List ℕ} {n : ℕ} (t : Threaded links ends before n) (row : n < length links) (room : n < mostRows)
+    (thread : threadOf (getD links n 0) < threadCount) (e : Earliest links n (getD links n 0) n) where
   here : ℕ
   here = threadOf (getD links n 0)
 
@@ -105,7 +106,7 @@ module _ {links ends before : List ℕ} {n : ℕ} (t : Threaded links ends befor
       apart-at i j l m (yes q) = rw q (e .none-before i (omega (arith, e .within)))
       apart-at i j l m (no d) = t .apart i j l (omega arith)
 
-      last-at : (k : ℕ) → k < 256 → Dec (k ≡ here) → LastOn links (n + 1) k (getD ends' k 0)
+      last-at : (k : ℕ) → k < threadCount → Dec (k ≡ here) → LastOn links (n + 1) k (getD ends' k 0)
       last-at k l (yes q) =
           rw (q, getD-set-same ends here (n + 1) 0 (omega (arith, t .ends-long)))
           (record {

@@ -1,4 +1,4 @@
--- The rows of a batch on 256 threads, by the numbers of their links, so that a row is compared with few others.
+-- The rows of a batch on 512 threads, by the numbers of their links, so that a row is compared with few others.
 -- Assumes nothing.
 use mathlib.Core.Path.{_≡_}
 use mathlib.Core.Logic.{_≢_}
@@ -6,10 +6,14 @@ use mathlib.Core.List.{List}
 use Prim.Native.Nat.{ℕ, suc, _≤_, _<_}
 use Prim.Native.Nat.{_%_}
 use lib.ListN.{length, getD}
+use Rattle.rules.specs.Columns.{mostRows}
+
+abbrev pub threadCount : ℕ
+threadCount = 512
 
 -- which thread the row of a link is on
 abbrev pub threadOf : ℕ → ℕ
-threadOf link = link % 256
+threadOf link = link % threadCount
 
 -- of the rows before row n, end is one more than the last on this thread, and 0 where none is
 pub record LastOn (links : List ℕ) (n thread end : ℕ) : Type 0 where
@@ -20,11 +24,11 @@ pub record LastOn (links : List ℕ) (n thread end : ℕ) : Type 0 where
 -- the first n rows name a link each of their own; ends tells each thread's last row, and before the row before each
 pub record Threaded (links ends before : List ℕ) (n : ℕ) : Type 0 where
   pub within : n ≤ length links
-  pub ends-long : length ends ≡ 256
-  pub before-long : length before ≡ 256
-  pub few : n ≤ 256
+  pub ends-long : length ends ≡ threadCount
+  pub before-long : length before ≡ mostRows
+  pub few : n ≤ mostRows
   pub apart : (i j : ℕ) → i < j → j < n → getD links i 0 ≢ getD links j 0
-  pub last : (thread : ℕ) → thread < 256 → LastOn links n thread (getD ends thread 0)
+  pub last : (thread : ℕ) → thread < threadCount → LastOn links n thread (getD ends thread 0)
   pub earlier : (row : ℕ) → row < n → LastOn links row (threadOf (getD links row 0)) (getD before row 0)
 
 -- r is the earliest of the first n rows that names the link, or n where none does

@@ -1,17 +1,18 @@
-// The rows of a batch on 256 threads, by the numbers of their links: a row is compared with those on its own thread alone.
+// The rows of a batch on 512 threads, by the numbers of their links: a row is compared with those on its own thread alone.
 // `ends` has for each thread one more than its last row, `before` for each row one more than the row before it on its
 // thread, and 0 says that there is none.
 ghost use mathlib.Core.Path.{_≡_};
 ghost use Prim.Native.Nat.{_+_, _<_};
 ghost use lib.ListN.{length, getD};
-ghost use Rattle.threads.specs.Threads.{threadOf, Threaded, Earliest};
+ghost use Rattle.rules.specs.Columns.{mostRows};
+ghost use Rattle.threads.specs.Threads.{threadCount, threadOf, Threaded, Earliest};
 
-// Which of 256 threads a link's row is on: two rows of one link are on one thread, and of the rows that name each a link
-// of their own at most sixteen are.
+// Which of 512 threads a link's row is on: two rows of one link are on one thread, and of the rows that name each a link
+// of their own at most eight are.
 fn thread_of(link: u16) -> usize
-    ensures { λ r. ⌜ (r ≡ threadOf link) × (r < 256) ⌝ }
+    ensures { λ r. ⌜ (r ≡ threadOf link) × (r < threadCount) ⌝ }
 {
-    link as usize % 256
+    link as usize % 512
 }
 
 // The earliest of the first `rows` rows that names the link, or `rows` where none does. Only rows on the link's thread are
@@ -33,8 +34,8 @@ pub fn earliest_row(changed: &[u16], ends: &[u16], before: &[u16], rows: usize, 
 }
 
 // One row more, which names no link of those before it.
-pub fn add_row(changed: &[u16], ends: &mut [u16; 256], before: &mut [u16; 256], row: usize)
-    requires { ⌜ Threaded (now changed) (now ends) (now before) row × (row < length (now changed)) × (row < 256) × Earliest (now changed) row (getD (now changed) row 0) row ⌝ }
+pub fn add_row(changed: &[u16], ends: &mut [u16; 512], before: &mut [u16; 256], row: usize)
+    requires { ⌜ Threaded (now changed) (now ends) (now before) row × (row < length (now changed)) × (row < mostRows) × Earliest (now changed) row (getD (now changed) row 0) row ⌝ }
     ensures { λ _. ⌜ Threaded (now (changed .entry)) (now (ends .exit)) (now (before .exit)) (row + 1) ⌝ }
 {
     let thread = thread_of(changed[row]);
