@@ -1,17 +1,16 @@
--- Putting one row after another gathers the first rows of a batch. Assumes nothing.
+-- Storing one row after another gathers the first rows of a batch. Assumes nothing.
 use mathlib.Core.Path.{_≡_, refl, sym, ap, _∙_}
 use mathlib.Core.List.{List, [], _∷_, _++_}
 use Prim.Native.Nat.{ℕ, _+_, _≤_, _<_}
 use native.Mathlib.Omega.{arith}
 use native.Mathlib.Numerals.{add-one}
 use native.Mathlib.Decide.{decLt}
-use lib.ListN.{length, getD, set, take, length-set, length-replicate}
-use lib.Seq.{take-suc, take-all, take-suc-set, length-take-le}
+use lib.ListN.{length, getD, set, take, drop, length-set, length-replicate}
+use lib.Seq.{take-suc, take-all, take-suc-set, length-take-le, drop-drop, drop-set-lt}
 use borrow.Author.Tests.{lt-ltb, le-ltb}
 use Rattle.rules.specs.declared.Change.{Change}
 use Rattle.batch.specs.Rows.{rowsOfColumns}
-use Rattle.gather.specs.declared.Rows.{Rows}
-use Rattle.gather.specs.Gathering.{mostRead, least, noRows, withRow, rowsOf, Gathered}
+use Rattle.gather.specs.Gathering.{mostRead, least, blank, Gathered}
 
 -- what stands past a batch's end, where nothing is read
 abbrev pub noRow : Change
@@ -33,31 +32,41 @@ rows-set links costs n l c row =
     rw (add-one n, take-suc-set links n (row .link) l, take-suc-set costs n (row .cost) c)
     (rows-more (take n links) (take n costs) (length-take-le n links (omega arith) ∙ sym (length-take-le n costs (omega arith))) (row .link) (row .cost))
 
--- ---- the rows of the first so many of a batch
+-- ---- two columns in which the first so many rows of a batch are stored
 
-pub record Upto (batch : List Change) (i : ℕ) (r : Rows) : Type 0 where
-  pub rows : rowsOf r ≡ take i batch
-  pub count : r .count ≡ i
-  pub links : length (r .link) ≡ mostRead
-  pub costs : length (r .cost) ≡ mostRead
+past-set : (column : List ℕ) (i x : ℕ) → drop i column ≡ drop i blank → drop (i + 1) (set column i x) ≡ drop (i + 1) blank
+past-set column i x past = drop-set-lt (i + 1) column i x (omega arith) ∙ sym (drop-drop 1 i column) ∙ ap (drop 1) past ∙ drop-drop 1 i blank
 
-pub upto-none : (batch : List Change) → Upto batch 0 noRows
+pub record Upto (batch : List Change) (i : ℕ) (links costs : List ℕ) : Type 0 where
+  pub rows : rowsOfColumns (take i links) (take i costs) ≡ take i batch
+  pub links-long : length links ≡ mostRead
+  pub costs-long : length costs ≡ mostRead
+  pub links-past : drop i links ≡ drop i blank
+  pub costs-past : drop i costs ≡ drop i blank
+
+pub upto-none : (batch : List Change) → Upto batch 0 blank blank
 unfolding rowsOfColumns
-upto-none batch = record { rows = refl; count = refl; links = length-replicate {A = ℕ} mostRead 0; costs = length-replicate {A = ℕ} mostRead 0 }
+upto-none batch = record {
+  rows = refl;
+  links-long = length-replicate {A = ℕ} mostRead 0;
+  costs-long = length-replicate {A = ℕ} mostRead 0;
+  links-past = refl;
+  costs-past = refl;
+}
 
-module _ (batch : List Change) (i : ℕ) (r : Rows) (before : Upto batch i r) where
+module _ (batch : List Change) (i : ℕ) (links costs : List ℕ) (before : Upto batch i links costs) where
   abbrev row : Change
   row = getD batch i noRow
 
-  pub upto-more : i < mostRead → i < length batch → Upto batch (i + 1) (withRow r (row .link) (row .cost))
-  upto-more room inside =
-      rw (lt-ltb (r .count) mostRead (omega (arith, before .count))) (record {
-        rows = rows-set (r .link) (r .cost) (r .count) (omega (arith, before .count, before .links)) (omega (arith, before .count, before .costs)) row
-            ∙ ap (λ (rows : List Change). rows ++ (row ∷ [])) (before .rows) ∙ sym (take-suc batch i noRow inside) ∙ ap (λ (n : ℕ). take n batch) (sym (add-one i));
-        count = ap (λ (n : ℕ). n + 1) (before .count);
-        links = length-set (r .link) (r .count) (row .link) ∙ before .links;
-        costs = length-set (r .cost) (r .count) (row .cost) ∙ before .costs;
-      })
+  pub upto-more : i < mostRead → i < length batch → Upto batch (i + 1) (set links i (row .link)) (set costs i (row .cost))
+  upto-more room inside = record {
+    rows = rows-set links costs i (omega (arith, before .links-long)) (omega (arith, before .costs-long)) row
+        ∙ ap (λ (rows : List Change). rows ++ (row ∷ [])) (before .rows) ∙ sym (take-suc batch i noRow inside) ∙ ap (λ (n : ℕ). take n batch) (sym (add-one i));
+    links-long = length-set links i (row .link) ∙ before .links-long;
+    costs-long = length-set costs i (row .cost) ∙ before .costs-long;
+    links-past = past-set links i (row .link) (before .links-past);
+    costs-past = past-set costs i (row .cost) (before .costs-past);
+  }
 
 -- ---- as many as are read
 
@@ -82,5 +91,11 @@ take-least batch most = at (decLt (length batch) most)
     at (yes l) = rw (lt-ltb (length batch) most l) (take-all (length batch) batch (omega arith) ∙ sym (take-all most batch (omega arith)))
     at (no l) = rw (le-ltb (length batch) most (omega arith)) refl
 
-pub upto-all : (batch : List Change) (r : Rows) → Upto batch (least (length batch) mostRead) r → Gathered batch r
-upto-all batch r all = record { rows = all .rows ∙ take-least batch mostRead; few = omega (arith, all .count, least-right (length batch) mostRead) }
+pub upto-all : (batch : List Change) (links costs : List ℕ) → Upto batch (least (length batch) mostRead) links costs
+    → Gathered batch (record { link = links; cost = costs; count = least (length batch) mostRead })
+upto-all batch links costs all = record {
+  rows = all .rows ∙ take-least batch mostRead;
+  few = least-right (length batch) mostRead;
+  links-past = all .links-past;
+  costs-past = all .costs-past;
+}

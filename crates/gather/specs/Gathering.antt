@@ -1,9 +1,9 @@
 -- The rows of a batch by columns, as many as are read of it. Assumes nothing.
 use mathlib.Core.Path.{_≡_}
 use mathlib.Core.List.{List}
-use Prim.Native.Nat.{ℕ, _+_, _≤_}
+use Prim.Native.Nat.{ℕ, _≤_}
 use lib.Dec.{ltb}
-use lib.ListN.{set, replicate, take}
+use lib.ListN.{replicate, take, drop}
 use Rattle.rules.specs.Tests.{pick}
 use Rattle.rules.specs.declared.Change.{Change}
 use Rattle.batch.specs.Rows.{rowsOfColumns}
@@ -16,21 +16,17 @@ mostRead = 257
 abbrev pub least : ℕ → ℕ → ℕ
 least a b = pick (ltb a b) a b
 
-abbrev pub noRows : Rows
-noRows = record { link = replicate mostRead 0; cost = replicate mostRead 0; count = 0 }
-
--- one row more, where there is room
-abbrev pub withRow : Rows → ℕ → ℕ → Rows
-withRow r link cost =
-    pick (ltb (r .count) mostRead)
-    (record { link = set (r .link) (r .count) link; cost = set (r .cost) (r .count) cost; count = r .count + 1 })
-    r
+-- a column before any row is stored
+abbrev pub blank : List ℕ
+blank = replicate mostRead 0
 
 -- the rows at the front of the columns
 abbrev pub rowsOf : Rows → List Change
 rowsOf r = rowsOfColumns (take (r .count) (r .link)) (take (r .count) (r .cost))
 
--- the first rows of a batch
+-- the first rows of a batch, and past them nothing stored
 pub record Gathered (batch : List Change) (r : Rows) : Type 0 where
   pub rows : rowsOf r ≡ take mostRead batch
   pub few : r .count ≤ mostRead
+  pub links-past : drop (r .count) (r .link) ≡ drop (r .count) blank
+  pub costs-past : drop (r .count) (r .cost) ≡ drop (r .count) blank

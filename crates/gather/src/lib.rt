@@ -1,6 +1,8 @@
 // A batch that comes as a lent slice of rows, gathered into two columns, which is what the jobs' inner parts take.
 ghost use mathlib.Core.Path.{_≡_};
-ghost use Rattle.gather.specs.Gathering.{noRows, withRow, least, mostRead, Gathered};
+ghost use Prim.Native.Nat.{_<_};
+ghost use lib.ListN.{set};
+ghost use Rattle.gather.specs.Gathering.{least, mostRead, Gathered};
 use rules::Change;
 
 // The first `count` places of both columns are rows. There is room for one row more than a batch may have, by which a
@@ -11,29 +13,13 @@ pub struct Rows {
     pub count: usize,
 }
 
-impl Rows {
-    fn none() -> Rows
-        ensures { λ r. ⌜ r ≡ noRows ⌝ }
-    {
-        Rows {
-            link: [0; 257],
-            cost: [0; 257],
-            count: 0,
-        }
-    }
-
-    // One row more, where there is room.
-    fn put(mut self, link: u16, cost: u16) -> Rows
-        ensures { λ r. ⌜ r ≡ withRow self link cost ⌝ }
-    {
-        let at = self.count;
-        if at < 257 {
-            self.link[at] = link;
-            self.cost[at] = cost;
-            self.count = at + 1;
-        }
-        self
-    }
+// One row stored in place.
+fn put(links: &mut [u16; 257], costs: &mut [u16; 257], at: usize, link: u16, cost: u16)
+    requires { ⌜ at < mostRead ⌝ }
+    ensures { λ _. ⌜ (now (links .exit) ≡ set (now (links .entry)) at link) × (now (costs .exit) ≡ set (now (costs .entry)) at cost) ⌝ }
+{
+    links[at] = link;
+    costs[at] = cost;
 }
 
 // How many rows are read of so many: of a batch of too many, just enough to tell.
@@ -51,12 +37,17 @@ pub fn gather(batch: &[Change]) -> Rows
     ensures { λ r. ⌜ Gathered (now (batch .entry)) r ⌝ }
 {
     let most = rows_read(batch.len());
-    let mut rows = Rows::none();
+    let mut links = [0u16; 257];
+    let mut costs = [0u16; 257];
     let mut i: usize = 0;
     while i < most {
         let row = batch[i];
-        rows = rows.put(row.link, row.cost);
+        put(&mut links, &mut costs, i, row.link, row.cost);
         i += 1;
     }
-    rows
+    Rows {
+        link: links,
+        cost: costs,
+        count: most,
+    }
 }
