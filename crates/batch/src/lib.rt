@@ -7,7 +7,7 @@ ghost use Rattle.batch.specs.Rows.{rowsOfColumns, RowsJudged, BatchJudge
 use rules::Answer;
 
 // How many rows the columns have: the places that both have.
-fn row_count(changed: &[u16], newcosts: &[u16]) -> usize
+pub fn row_count(changed: &[u16], newcosts: &[u16]) -> usize
     ensures { λ r. ⌜ r ≡ length (rowsOfColumns (now (changed .entry)) (now (newcosts .entry))) ⌝ }
 {
     let links = changed.len();

@@ -8,16 +8,16 @@ use native.Mathlib.Omega.{arith}
 use native.Mathlib.Nat.{not-suc-le-zero}
 use native.Mathlib.Decide.{ℕ-discrete, decLt}
 use borrow.Author.Count.{below-more}
-use lib.ListN.{length, getD, set, replicate, length-set, length-replicate, getD-replicate, List·getD-eq-default}
+use lib.ListN.{length, getD, set, replicate, length-set, length-replicate, List·getD-eq-default}
 use Rattle.rules.specs.Columns.{mostNodes, noLink, unreached}
-use Rattle.rules.proofs.Logic.{by-size}
-use Rattle.hang.specs.Passes.{Has, above, Rising, Placed, FirstBy, Standing, FirstOf, near, far, Known, Spread, Firsts}
-use Rattle.hang.proofs.Parents.{within, set-each}
+use Rattle.rules.proofs.Logic.{by-size, getD-any}
+use Rattle.hang.specs.Passes.{Has, above, Leaving, Rising, FirstBy, Standing, FirstOf, near, far, Known, Spread, Firsts}
+use Rattle.hang.proofs.Parents.{filled, set-each}
 
 -- ---- reading an array of links
 
 pub read-link : (array : List ℕ) {v : ℕ} → length array ≡ mostNodes → v < mostNodes → getD array v 0 ≡ getD array v noLink
-read-link array {v} long l = within array {v = v} 0 noLink (omega arith)
+read-link array {v} long l = getD-any array v 0 noLink (omega arith)
 
 pub has-read : {array : List ℕ} {v : ℕ} → length array ≡ mostNodes → v < mostNodes → getD array v 0 ≢ noLink → Has array v
 has-read {array} long l n = record { link = rw (read-link array long l) at n }
@@ -83,22 +83,13 @@ module _ {root : ℕ} {starts dist parent : List ℕ} (s : Rising root starts di
 -- ---- first links that are right already
 
 module _ {root : ℕ} {starts first : List ℕ} where
-  pub by-above : {link up : ℕ} → up ≡ getD starts link 0 → up ≢ root → up < mostNodes → length first ≡ mostNodes → link ≢ noLink
-      → FirstBy root starts first link (getD first up 0)
-  by-above {link} {up} e n l long m =
-      record {
-        bare = λ q. absurd (m q);
-        near = λ h q. absurd (n (e ∙ q));
-        far = λ h q. read-link first long l ∙ ap (λ (u : ℕ). getD first u noLink) e;
-      }
-
   by-one : {link f g : ℕ} → FirstBy root starts first link f → FirstBy root starts first link g → f ≡ g
-  by-one {link} {f} {g} a b = at (ℕ-discrete link noLink) (ℕ-discrete (getD starts link 0) root)
+  by-one {link} {f} {g} a b = at (decLt link (length starts)) (ℕ-discrete (getD starts link 0) root)
     where
-      at : Dec (link ≡ noLink) → Dec (getD starts link 0 ≡ root) → f ≡ g
-      at (yes e) d = a .bare e ∙ sym (b .bare e)
-      at (no n) (yes e) = a .near n e ∙ sym (b .near n e)
-      at (no n) (no m) = a .far n m ∙ sym (b .far n m)
+      at : Dec (link < length starts) → Dec (getD starts link 0 ≡ root) → f ≡ g
+      at (no n) d = omega (arith, a .bare (omega arith), b .bare (omega arith))
+      at (yes l) (yes e) = a .near l e ∙ sym (b .near l e)
+      at (yes l) (no m) = a .far l m ∙ sym (b .far l m)
 
   by-read : (parent : List ℕ) {v f : ℕ} → length parent ≡ mostNodes → v < mostNodes → FirstBy root starts first (getD parent v 0) f
       → FirstBy root starts first (getD parent v noLink) f
@@ -119,12 +110,6 @@ module _ {root : ℕ} {starts parent first : List ℕ} where
     standing-not n s = n (read-link first first-long l ∙ by-one (s .each v l) (by-read parent parent-long l by))
 
 module _ {root : ℕ} {starts dist parent : List ℕ} (r : Rising root starts dist parent) where
-  pub placed : {v : ℕ} → v < mostNodes → Placed root starts (getD parent v 0)
-  placed {v} l = record { is-link = λ n. link-within r (has n); start-within = λ n m. up-within r (has n) refl m }
-    where
-      has : getD parent v 0 ≢ noLink → Has parent v
-      has n = has-read (r .long) l n
-
   module _ {first : List ℕ} (s : Standing root starts parent mostNodes first) where
     -- a first link is right, since that of the nearer node above is
     standing-right : (v : ℕ) → Has parent v → FirstOf root starts parent v (getD first v noLink)
@@ -135,22 +120,22 @@ module _ {root : ℕ} {starts dist parent : List ℕ} (r : Rising root starts di
         step v before h = at (ℕ-discrete (above starts parent v) root)
           where
             at : Dec (above starts parent v ≡ root) → FirstOf root starts parent v (getD first v noLink)
-            at (yes e) = rw (s .each v (hangs-within r h) .near (h .link) e) (near h e)
+            at (yes e) = rw (s .each v (hangs-within r h) .near (r .is-link v h) e) (near h e)
             at (no n) =
-                rw (s .each v (hangs-within r h) .far (h .link) n) (far h n (before (above starts parent v) (r .nearer v h) (r .goes-on v h n)))
+                rw (s .each v (hangs-within r h) .far (r .is-link v h) n) (far h n (before (above starts parent v) (r .nearer v h) (r .goes-on v h n)))
 
     -- a node that has a first link has a parent link
-    standing-hangs : length first ≡ mostNodes → {v : ℕ} → Has first v → Has parent v
-    standing-hangs long {v} h = record { link = λ e. h .link (at e (decLt v mostNodes)) }
+    standing-hangs : Leaving starts → length first ≡ mostNodes → {v : ℕ} → Has first v → Has parent v
+    standing-hangs leaving long {v} h = record { link = λ e. h .link (at e (decLt v mostNodes)) }
       where
         at : getD parent v noLink ≡ noLink → Dec (v < mostNodes) → getD first v noLink ≡ noLink
-        at e (yes l) = s .each v l .bare e
+        at e (yes l) = s .each v l .bare (omega (arith, leaving .few)) ∙ e
         at e (no l) = List·getD-eq-default first noLink {n = v} (omega (arith, long))
 
-    pub standing-firsts : {n : ℕ} → length first ≡ mostNodes → Firsts root starts parent n first
-    standing-firsts long =
+    pub standing-firsts : {n : ℕ} → Leaving starts → length first ≡ mostNodes → Firsts root starts parent n first
+    standing-firsts leaving long =
         record {
-          known = record { long = long; right = λ v h. standing-right v (standing-hangs long h) };
+          known = record { long = long; right = λ v h. standing-right v (standing-hangs leaving long h) };
           each = λ v l h. record { link = first-is-link (standing-right v h) };
         }
 
@@ -179,11 +164,7 @@ module _ {root : ℕ} {starts dist parent : List ℕ} (s : Rising root starts di
 
 module _ {root : ℕ} {starts parent : List ℕ} where
   pub known-none : Known root starts parent (replicate mostNodes noLink)
-  known-none = record { long = length-replicate mostNodes noLink; right = λ v h. absurd (h .link (at v (decLt v mostNodes))) }
-    where
-      at : (v : ℕ) → Dec (v < mostNodes) → getD (replicate mostNodes noLink) v noLink ≡ noLink
-      at v (yes l) = getD-replicate mostNodes v noLink noLink l
-      at v (no l) = List·getD-eq-default (replicate mostNodes noLink) noLink {n = v} (omega (arith, length-replicate mostNodes noLink))
+  known-none = record { long = length-replicate mostNodes noLink; right = λ v h. absurd (h .link (filled mostNodes noLink v)) }
 
   pub climbing-known : {first : List ℕ} → Known root starts parent first → {node v : ℕ} → Climbing root starts parent node v → v < mostNodes
       → getD first v 0 ≢ noLink → FirstOf root starts parent node (getD first v 0)

@@ -2,15 +2,15 @@
 use mathlib.Core.Path.{_≡_, refl, sym, _∙_}
 use mathlib.Core.Logic.{_≢_}
 use mathlib.Core.Bool.{true, false}
-use mathlib.Core.List.{List, [], _∷_}
-use Prim.Native.Nat.{ℕ, zero, suc, _+_, _≤_, _<_}
+use mathlib.Core.List.{List}
+use Prim.Native.Nat.{ℕ, _+_, _≤_, _<_}
 use native.Mathlib.Omega.{arith}
-use native.Mathlib.Nat.{not-suc-le-zero, le-of-suc-le-suc}
+use native.Mathlib.Nat.{not-suc-le-zero}
 use native.Mathlib.Decide.{ℕ-discrete, decLt}
 use lib.ListN.{length, getD, set, replicate, length-set, length-replicate, getD-replicate, List·getD-eq-default}
 use lib.Seq.{getD-set-same, getD-set-other}
 use Rattle.rules.specs.Columns.{mostNodes, noLink, unreached}
-use Rattle.rules.proofs.Logic.{true-false}
+use Rattle.rules.proofs.Logic.{true-false, getD-any}
 use Rattle.hang.specs.Passes.{Tells, Given, Tightly, Kept, takes, AllKept}
 
 -- ---- answers
@@ -23,11 +23,13 @@ tells-yes a = record { holds = λ e. a; fails = λ e. absurd (true-false e) }
 
 -- ---- arrays
 
--- within an array it doesn't matter what is read past its end
-pub within : (xs : List ℕ) {v : ℕ} (d e : ℕ) → v < length xs → getD xs v d ≡ getD xs v e
-within [] d e l = absurd (not-suc-le-zero l)
-within (x ∷ xs) {v = zero} d e l = refl
-within (x ∷ xs) {v = suc v} d e l = within xs d e (le-of-suc-le-suc l)
+-- the same number everywhere
+pub filled : (n a v : ℕ) → getD (replicate n a) v a ≡ a
+filled n a v = at (decLt v n)
+  where
+    at : Dec (v < n) → getD (replicate n a) v a ≡ a
+    at (yes l) = getD-replicate n v a a l
+    at (no l) = List·getD-eq-default (replicate n a) a (omega (arith, length-replicate n a))
 
 -- what stands in an array is known place by place: at v it is x, elsewhere it is as before
 pub set-each : (P : ℕ → ℕ → Type 0) (xs : List ℕ) (v x : ℕ) → v < length xs → P v x
@@ -68,7 +70,7 @@ module _ {Done : ℕ → ℕ → ℕ → Type 0} where
       inside = omega (arith, p .long)
 
       now : Done v (getD old v noLink) link
-      now = rw (← p .rest v (omega arith), within new noLink 0 inside) here
+      now = rw (← p .rest v (omega arith), getD-any new v noLink 0 inside) here
 
   -- past the last node there is no link, before and after
   passing-end : {v : ℕ} {old new : List ℕ} → Passing Done v old new → mostNodes ≤ v → length old ≡ mostNodes → ((u : ℕ) → mostNodes ≤ u → Done u noLink noLink)
@@ -99,4 +101,4 @@ module _ {starts ends costs dist : List ℕ} (g : Given starts ends costs dist) 
 -- what the code reads is what was found
 pub kept-read : {Tight : ℕ → Type 0} (found : List ℕ) (v : ℕ) {old new : ℕ} → length found ≡ mostNodes → v < mostNodes → Kept Tight old (getD found v 0) new
     → Kept Tight old (getD found v noLink) new
-kept-read found v long l k = rw (within found {v = v} noLink 0 (omega arith)) k
+kept-read found v long l k = rw (getD-any found v noLink 0 (omega arith)) k

@@ -5,27 +5,43 @@ use mathlib.Core.Logic.{_≢_}
 use mathlib.Core.List.{List}
 use Prim.Native.Nat.{ℕ, _≤_, _<_}
 use native.Mathlib.Omega.{arith}
-use native.Mathlib.Decide.{ℕ-discrete, decLt}
-use lib.ListN.{length, getD, replicate, length-replicate, getD-replicate, List·getD-eq-default}
+use native.Mathlib.Decide.{ℕ-discrete}
+use lib.ListN.{length, getD, replicate}
 use Rattle.rules.specs.Net.{Net}
 use Rattle.rules.specs.Tree.{Rows, Tight, Hung, Row, root, hung, bare}
-use Rattle.rules.specs.Keep.{Choice}
-use Rattle.rules.specs.Columns.{Table, netOf, rowsOf, arrays, mostNodes, unreached, noLink}
+use Rattle.rules.specs.Keep.{Choice, Next}
+use Rattle.rules.specs.Sums.{Sums}
+use Rattle.rules.specs.Columns.{Table, Proper, netOf, rowsOf, arrays, mostNodes, unreached, noLink}
 use Rattle.rules.proofs.Judged.{legal}
-use Rattle.hang.specs.Ready.{Ready, Hanged}
-use Rattle.hang.specs.Passes.{Given, Tightly, Kept, keeps, takes, Smallest, finds, lacks, AllKept, AllSmallest, Has, Rising, FirstOf, Firsts}
+use Rattle.hang.specs.Passes.{Given, Tightly, Kept, keeps, takes, AllKept, Has, Leaving, Rising, FirstOf, Firsts}
 use Rattle.hang.proofs.Distances.{some-tight, root-not-tight, mark-not-tight, offered}
-use Rattle.hang.proofs.Parents.{none-not-tight}
+use Rattle.hang.proofs.Parents.{filled, none-not-tight}
 use Rattle.hang.proofs.Firsts.{first-hangs, first-near, first-far, first-one}
 
-pub ready-given : {t : Table} {dist parent first : List ℕ} → Ready t dist parent first → Given (t .starts) (t .ends) (t .costs) dist
+-- the table is accepted, and the distances are its least sums
+pub record Ready (t : Table) (dist : List ℕ) : Type 0 where
+  pub proper : Proper t
+  pub sums : Sums (netOf t) (λ v. getD dist v unreached)
+  pub dist-long : length dist ≡ mostNodes
+
+-- the arrays are whole, and they are the next tree where old has each node's link before
+pub record Hanged (t : Table) (dist old parent first : List ℕ) : Type 0 where
+  pub parent-long : length parent ≡ mostNodes
+  pub first-long : length first ≡ mostNodes
+  pub next : Next (netOf t) (rowsOf (arrays dist parent first)) (λ v. getD old v noLink)
+
+-- an accepted table's starts
+pub leaving : {t : Table} → Proper t → Leaving (t .starts)
+leaving p = record { few = p .few-links; nodes = λ k l. omega (arith, p .starts k l, p .few-nodes) }
+
+pub ready-given : {t : Table} {dist : List ℕ} → Ready t dist → Given (t .starts) (t .ends) (t .costs) dist
 ready-given a =
     let p = a .proper in
     record {
       ends-long = p .ends-long;
       costs-long = p .costs-long;
       few-links = p .few-links;
-      starts-within = λ k l. omega (arith, p .starts k l, p .few-nodes);
+      starts-within = leaving p .nodes;
       ends-within = λ k l. omega (arith, p .ends k l, p .few-nodes);
       dist-long = a .dist-long;
     }
@@ -49,6 +65,16 @@ module _ (t : Table) (dist parent first : List ℕ) {v k : ℕ} where
         exact = record { reached = b .from-reached; sum = b .sum; usable = omega (arith, b .usable .costs) };
       }
 
+-- the smallest link that is tight; none where none is
+pub data Smallest (Tight : ℕ → Type 0) (found : ℕ) : Type 0 where
+  finds : Tight found → ((j : ℕ) → Tight j → found ≤ j) → Smallest Tight found
+  lacks : found ≡ noLink → ((j : ℕ) → ¬ (Tight j)) → Smallest Tight found
+
+-- it is found for every node that asks
+pub record AllSmallest (t : Table) (dist : List ℕ) (asks : ℕ → Type 0) (found : List ℕ) : Type 0 where
+  pub long : length found ≡ mostNodes
+  pub each : (v : ℕ) → asks v → Smallest (Tightly (t .starts) (t .ends) (t .costs) dist v) (getD found v noLink)
+
 -- a node stays on its old link, goes to the smallest tight one, or is bare, since no link is tight
 pub data Picked (Tight : ℕ → Type 0) (old new : ℕ) : Type 0 where
   on-old : Tight old → new ≡ old → Picked Tight old new
@@ -70,23 +96,15 @@ pub record AllPicked (t : Table) (dist old parent : List ℕ) : Type 0 where
   pub each : (v : ℕ) → Picked (Tightly (t .starts) (t .ends) (t .costs) dist v) (getD old v noLink) (getD parent v noLink)
 
 pub all-picked : {t : Table} {dist old found parent : List ℕ} → AllKept (t .starts) (t .ends) (t .costs) dist found old parent
-    → AllSmallest (t .starts) (t .ends) (t .costs) dist (λ v. ¬ (Tightly (t .starts) (t .ends) (t .costs) dist v (getD old v noLink))) found
+    → AllSmallest t dist (λ v. ¬ (Tightly (t .starts) (t .ends) (t .costs) dist v (getD old v noLink))) found
     → AllPicked t dist old parent
 all-picked k s = record { long = k .long; each = λ v. picked (k .each v) (s .each v) }
 
--- the same number everywhere
-filled : (n a v : ℕ) → getD (replicate n a) v a ≡ a
-filled n a v = at (decLt v n)
-  where
-    at : Dec (v < n) → getD (replicate n a) v a ≡ a
-    at (yes l) = getD-replicate n v a a l
-    at (no l) = List·getD-eq-default (replicate n a) a (omega (arith, length-replicate n a))
-
-pub all-fresh : {t : Table} {dist parent first : List ℕ} → Ready t dist parent first → AllSmallest (t .starts) (t .ends) (t .costs) dist (λ v. Unit {0}) parent
+pub all-fresh : {t : Table} {dist parent : List ℕ} → Ready t dist → AllSmallest t dist (λ v. Unit {0}) parent
     → AllPicked t dist (replicate mostNodes noLink) parent
 all-fresh a s = record { long = s .long; each = λ v. rw (filled mostNodes noLink v) (picked-smallest (none-not-tight (ready-given a)) (s .each v tt)) }
 
-module _ {t : Table} {dist parent₀ first₀ : List ℕ} (a : Ready t dist parent₀ first₀) {old parent : List ℕ} (p : AllPicked t dist old parent) (first : List ℕ) where
+module _ {t : Table} {dist : List ℕ} (a : Ready t dist) {old parent : List ℕ} (p : AllPicked t dist old parent) (first : List ℕ) where
   abbrev N : Net
   N = netOf t
 

@@ -40,20 +40,10 @@ pub data Kept (Tight : ℕ → Type 0) (old found new : ℕ) : Type 0 where
   keeps : Tight old → new ≡ old → Kept Tight old found new
   takes : ¬ (Tight old) → new ≡ found → Kept Tight old found new
 
--- the smallest link that is tight; none where none is
-pub data Smallest (Tight : ℕ → Type 0) (found : ℕ) : Type 0 where
-  finds : Tight found → ((j : ℕ) → Tight j → found ≤ j) → Smallest Tight found
-  lacks : found ≡ noLink → ((j : ℕ) → ¬ (Tight j)) → Smallest Tight found
-
--- the same of every node, or of every node that asks
-module _ (starts ends costs dist : List ℕ) where
-  pub record AllKept (found old new : List ℕ) : Type 0 where
-    pub long : length new ≡ mostNodes
-    pub each : (v : ℕ) → Kept (Tightly starts ends costs dist v) (getD old v noLink) (getD found v noLink) (getD new v noLink)
-
-  pub record AllSmallest (asks : ℕ → Type 0) (found : List ℕ) : Type 0 where
-    pub long : length found ≡ mostNodes
-    pub each : (v : ℕ) → asks v → Smallest (Tightly starts ends costs dist v) (getD found v noLink)
+-- the same of every node
+pub record AllKept (starts ends costs dist found old new : List ℕ) : Type 0 where
+  pub long : length new ≡ mostNodes
+  pub each : (v : ℕ) → Kept (Tightly starts ends costs dist v) (getD old v noLink) (getD found v noLink) (getD new v noLink)
 
 -- ---- first links
 
@@ -72,16 +62,16 @@ pub record Rising (root : ℕ) (starts dist parent : List ℕ) : Type 0 where
   pub goes-on : (v : ℕ) → Has parent v → above starts parent v ≢ root → Has parent (above starts parent v)
   pub nearer : (v : ℕ) → Has parent v → getD dist (above starts parent v) unreached < getD dist v unreached
 
--- a link's number is that of none, or of a link that starts at the root or at a place of the arrays
-pub record Placed (root : ℕ) (starts : List ℕ) (link : ℕ) : Type 0 where
-  pub is-link : link ≢ noLink → link < length starts
-  pub start-within : link ≢ noLink → getD starts link 0 ≢ root → getD starts link 0 < mostNodes
+-- at most 4,096 links, each from one of 256 nodes
+pub record Leaving (starts : List ℕ) : Type 0 where
+  pub few : length starts ≤ mostLinks
+  pub nodes : (k : ℕ) → k < length starts → getD starts k 0 < mostNodes
 
 -- f is a node's first link by its parent link and by the first links of the nodes above it
 pub record FirstBy (root : ℕ) (starts first : List ℕ) (link f : ℕ) : Type 0 where
-  pub bare : link ≡ noLink → f ≡ noLink
-  pub near : link ≢ noLink → getD starts link 0 ≡ root → f ≡ link
-  pub far : link ≢ noLink → getD starts link 0 ≢ root → f ≡ getD first (getD starts link 0) noLink
+  pub bare : length starts ≤ link → f ≡ link
+  pub near : link < length starts → getD starts link 0 ≡ root → f ≡ link
+  pub far : link < length starts → getD starts link 0 ≢ root → f ≡ getD first (getD starts link 0) noLink
 
 -- FirstOf v f: going up by parent links from v, link f is the last, and starts at the root
 pub data FirstOf (root : ℕ) (starts parent : List ℕ) : ℕ → ℕ → Type 0 where

@@ -3,9 +3,8 @@ ghost use mathlib.Core.Path.{_≡_};
 ghost use mathlib.Core.Logic.{_≢_};
 ghost use Prim.Native.Nat.{_≤_, _<_};
 ghost use lib.ListN.{length, getD, replicate};
-ghost use Rattle.rules.specs.Columns.{mostNodes, noLink, unreached, table};
-ghost use Rattle.hang.specs.Ready.{Ready, Hanged};
-ghost use Rattle.hang.specs.Passes.{Tells, Given, Exact, Tightly, Kept, AllKept, AllSmallest, Has, Rising, Placed, FirstBy, Standing, FirstOf, Known, Spread, Firsts};
+ghost use Rattle.rules.specs.Columns.{mostNodes, noLink, unreached};
+ghost use Rattle.hang.specs.Passes.{Tells, Given, Exact, Tightly, Kept, AllKept, Has, Leaving, Rising, FirstBy, Standing, FirstOf, Known, Spread, Firsts};
 
 const NODES: usize = 256;
 
@@ -70,8 +69,8 @@ fn kept(
     }
 }
 
-// Every node keeps its link where that is tight, and else takes what was found.
-fn keep_tight(
+// Every node keeps its link where that is tight, and else takes what was found. Any numbers may come in.
+pub fn keep_tight(
     starts: &[u16],
     ends: &[u16],
     costs: &[u16],
@@ -98,16 +97,17 @@ fn start_of(starts: &[u16], link: u16) -> usize
     starts[k] as usize
 }
 
-// What a node's first link is by its parent link: none by none, that link where it starts at the root, else the first
-// link of the node where it starts.
-fn first_by(root: usize, starts: &[u16], first: &[u16; 256], link: u16) -> u16
-    requires { ⌜ Placed root (now starts) link × (length (now first) ≡ mostNodes) ⌝ }
+// What a node's first link is by its parent link: that link where it starts at the root, else the first link of the node
+// where it starts; a number that is no link's stays, as that of none does.
+pub fn first_by(root: usize, starts: &[u16], first: &[u16; 256], link: u16) -> u16
+    requires { ⌜ Leaving (now starts) × (length (now first) ≡ mostNodes) ⌝ }
     ensures { λ r. ⌜ FirstBy root (now (starts .entry)) (now (first .entry)) link r ⌝ }
 {
-    if link == NO_LINK {
-        return NO_LINK;
+    let k = link as usize;
+    if starts.len() <= k {
+        return link;
     }
-    let up = start_of(starts, link);
+    let up = starts[k] as usize;
     if up == root { link } else { first[up] }
 }
 
@@ -120,7 +120,7 @@ fn firsts_stand(
     parent: &[u16; 256],
     first: &[u16; 256],
 ) -> bool
-    requires { ⌜ Rising root (now starts) (now dist) (now parent) × (length (now first) ≡ mostNodes) ⌝ }
+    requires { ⌜ Rising root (now starts) (now dist) (now parent) × Leaving (now starts) × (length (now first) ≡ mostNodes) ⌝ }
     ensures { λ r. ⌜ Tells (Standing root (now (starts .entry)) (now (parent .entry)) mostNodes (now (first .entry))) r ⌝ }
 {
     let mut v: usize = 0;
@@ -220,9 +220,9 @@ fn first_links(
     }
 }
 
-// The first link of every node that has a parent: left as they came in where all are right, as after most batches, and
-// else found anew.
-fn renew_firsts(
+// The first link of every node that has a parent: left as they came in, with any numbers, where all are right, as after
+// most batches, and else found anew.
+pub fn renew_firsts(
     nodes: usize,
     root: usize,
     starts: &[u16],
@@ -230,7 +230,7 @@ fn renew_firsts(
     parent: &[u16; 256],
     first: &mut [u16; 256],
 )
-    requires { ⌜ Rising root (now starts) (now dist) (now parent) × (nodes ≤ mostNodes) × (length (now first) ≡ mostNodes) ⌝ }
+    requires { ⌜ Rising root (now starts) (now dist) (now parent) × Leaving (now starts) × (nodes ≤ mostNodes) × (length (now first) ≡ mostNodes) ⌝ }
     ensures { λ _. ⌜ Firsts root (now (starts .entry)) (now (parent .entry)) nodes (now (first .exit)) ⌝ }
 {
     if firsts_stand(root, starts, dist, parent, first) {
@@ -238,42 +238,4 @@ fn renew_firsts(
     }
     forget(first);
     first_links(nodes, root, starts, dist, parent, first);
-}
-
-// First links for distances that are least sums and parents that are the smallest tight links. `first` comes in with any
-// numbers, at best with guesses.
-pub fn hang(
-    nodes: usize,
-    root: usize,
-    starts: &[u16],
-    ends: &[u16],
-    costs: &[u16],
-    dist: &[u32; 256],
-    parent: &[u16; 256],
-    first: &mut [u16; 256],
-)
-    requires { ⌜ Ready (table nodes root (now starts) (now ends) (now costs)) (now dist) (now parent) (now first) × AllSmallest (now starts) (now ends) (now costs) (now dist) (λ v. Unit {0}) (now parent) ⌝ }
-    ensures { λ _. ⌜ Hanged (table nodes root (now (starts .entry)) (now (ends .entry)) (now (costs .entry))) (now (dist .entry)) (replicate mostNodes noLink) (now (parent .entry)) (now (first .exit)) ⌝ }
-{
-    renew_firsts(nodes, root, starts, dist, parent, first);
-}
-
-// The same where `parent` comes in with each node's old link, or with any number that is no link: a node whose old link is
-// tight keeps it, and any other takes the one found, which is its smallest tight link.
-pub fn rehang(
-    nodes: usize,
-    root: usize,
-    starts: &[u16],
-    ends: &[u16],
-    costs: &[u16],
-    dist: &[u32; 256],
-    found: &[u16; 256],
-    parent: &mut [u16; 256],
-    first: &mut [u16; 256],
-)
-    requires { ⌜ Ready (table nodes root (now starts) (now ends) (now costs)) (now dist) (now parent) (now first) × AllSmallest (now starts) (now ends) (now costs) (now dist) (λ v. ¬ (Tightly (now starts) (now ends) (now costs) (now dist) v (getD (now parent) v noLink))) (now found) ⌝ }
-    ensures { λ _. ⌜ Hanged (table nodes root (now (starts .entry)) (now (ends .entry)) (now (costs .entry))) (now (dist .entry)) (now (parent .entry)) (now (parent .exit)) (now (first .exit)) ⌝ }
-{
-    keep_tight(starts, ends, costs, dist, found, parent);
-    renew_firsts(nodes, root, starts, dist, parent, first);
 }

@@ -6,24 +6,25 @@ use Prim.Native.Nat.{ℕ, _+_, _≤_, _<_}
 use native.Mathlib.Omega.{arith}
 use native.Mathlib.Decide.{ℕ-discrete}
 use lib.Dec.{T, ltb, ltb→lt, lt→ltb}
-use lib.ListN.{set, length-set}
+use lib.ListN.{length, getD, set, length-set}
 use lib.Seq.{getD-set-same, getD-set-other}
 use Rattle.rules.specs.Net.{Usable, at-root, along}
-use Rattle.rules.specs.Columns.{Table, netOf, mostNodes, unreached}
+use Rattle.rules.specs.Columns.{Table, netOf, mostNodes, unreached, noLink}
 use Rattle.rules.proofs.Logic.{by-size, count-lt}
 use Rattle.queue.specs.Queue.{empty, LeastKey, Rekeyed}
 use Rattle.settle.specs.Afoot.{distAt, keyAt, Keyed, idle, Lined, Within}
 use Rattle.lift.specs.Loose as loose
 use Rattle.settle.specs.Finding.{Carries}
-use Rattle.lift.specs.Loose.{parentAt, Standing, Hangs, AllStand, StandBut, Lifted, reachedCount}
+use Rattle.lift.specs.Loose.{parentAt, Standing, Hangs, AllStand, StandBut, Lifted, Fate, stays, goes, Fates, reachedCount}
 use Rattle.settle.proofs.Rounds.{Chosen, none-waits}
 
 -- ---- a node goes to unreached
 
--- every node stands, and the key is the least
-pub record Lifting (t : Table) (parent dist keys mins : List ℕ) (key : ℕ) : Type 0 where
+-- every node stands, the key is the least, and what was lifted since the distances were `old` is known
+pub record Lifting (t : Table) (parent old dist first keys mins : List ℕ) (key : ℕ) : Type 0 where
   pub stands : AllStand t parent dist keys mins
   pub least : LeastKey mins key
+  pub fates : Fates old dist first
 
 module _ {t : Table} {parent dist keys mins : List ℕ} (h : AllStand t parent dist keys mins) {u : ℕ} (w : Chosen dist keys u)
     {keys' mins' : List ℕ} (r : Rekeyed keys u empty keys' mins') where
@@ -97,6 +98,20 @@ module _ {t : Table} {parent dist keys mins : List ℕ} (h : AllStand t parent d
       still v p (yes e) = lt→ltb (distAt dist v) unreached (rw e (w .near))
       still v p (no n) = rw (dist-still v n) at p
 
+-- one node more is lifted
+pub fates-more : {old dist first : List ℕ} {u : ℕ} → Fates old dist first → length dist ≡ mostNodes → u < mostNodes
+    → Fates old (set dist u unreached) (set first u noLink)
+fates-more {old} {dist} {first} {u} f long node = record { long = length-set first u noLink ∙ f .long; each = λ v. at v (ℕ-discrete v u) (f .each v) }
+  where
+    other : (v : ℕ) → v ≢ u → getD (set first u noLink) v noLink ≡ getD first v noLink
+    other v n = getD-set-other first u v noLink noLink n
+
+    at : (v : ℕ) → Dec (v ≡ u) → Fate old dist first v → Fate old (set dist u unreached) (set first u noLink) v
+    at v (yes e) d =
+        rw e (goes (getD-set-same dist u unreached unreached (omega arith)) (getD-set-same first u noLink noLink (omega (arith, f .long))))
+    at v (no n) (stays d) = stays (getD-set-other dist u v unreached unreached n ∙ d)
+    at v (no n) (goes d g) = goes (getD-set-other dist u v unreached unreached n ∙ d) (other v n ∙ g)
+
 -- ---- no node waits
 
 module _ {t : Table} {parent dist keys mins : List ℕ} (h : AllStand t parent dist keys mins) (none : (v : ℕ) → keyAt keys v ≡ empty) where
@@ -119,8 +134,8 @@ module _ {t : Table} {parent dist keys mins : List ℕ} (h : AllStand t parent d
           let walk = rw (c .ends-at) at (along k usable (w .walk)) in
           record { sum = w .sum + netOf t .cost k; walk = walk; within = omega (arith, w .within, c .offers .enough) }
 
-  stays : (v : ℕ) → distAt dist v < unreached → v ≢ t .root → Carries t dist (parentAt parent v) v
-  stays v near n = at (h .standing v tt)
+  still : (v : ℕ) → distAt dist v < unreached → v ≢ t .root → Carries t dist (parentAt parent v) v
+  still v near n = at (h .standing v tt)
     where
       at : Standing t parent dist keys v → Carries t dist (parentAt parent v) v
       at (loose.bare e) = absurd (omega arith)
@@ -129,7 +144,8 @@ module _ {t : Table} {parent dist keys mins : List ℕ} (h : AllStand t parent d
       at (loose.carried c) = c
 
   all-lifted : Lifted t parent dist keys mins
-  all-lifted = record { begun = record { lined = h .lined; root-zero = h .root-zero; walks = walks }; carried = stays; none-waits = none }
+  all-lifted = record { begun = record { lined = h .lined; root-zero = h .root-zero; walks = walks }; carried = still; none-waits = none }
 
-pub lifted : {t : Table} {parent dist keys mins : List ℕ} {key : ℕ} → Lifting t parent dist keys mins key → key ≡ empty → Lifted t parent dist keys mins
-lifted h e = all-lifted (h .stands) (none-waits (h .stands .lined) (h .least) e)
+pub lifted : {t : Table} {parent dist keys mins : List ℕ} {key : ℕ} → AllStand t parent dist keys mins → LeastKey mins key → key ≡ empty
+    → Lifted t parent dist keys mins
+lifted h least e = all-lifted h (none-waits (h .lined) least e)

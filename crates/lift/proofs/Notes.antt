@@ -14,12 +14,13 @@ use lib.Seq.{getD-set-same, getD-set-other}
 use Rattle.rules.specs.Columns.{Table, Proper, netOf, mostNodes, unreached, noLink}
 use Rattle.rules.proofs.Logic.{true-false, getD-any}
 use Rattle.queue.specs.Queue.{empty, keyOf, Rekeyed}
-use Rattle.settle.specs.Afoot.{distAt, keyAt, Keyed, idle, waits, Lined, FirstOf}
+use Rattle.settle.specs.Afoot.{Untouched, distAt, keyAt, Keyed, idle, waits, Lined, FirstOf}
 use Rattle.lift.specs.Loose as loose
 use Rattle.settle.specs.Finding.{Offers, Carries}
-use Rattle.lift.specs.Loose.{parentAt, Says, Marked, Standing, Rooted, Loose, Hangs, AllStand, StandBut, Ready, Noted}
+use Rattle.lift.specs.Loose.{parentAt, Says, Marked, Standing, Rooted, Parents, Loose, Hangs, AllStand, StandBut, StandApart, Ready, Noted}
 use Rattle.settle.proofs.Offers.{inside, start-is-node, end-is-node}
 use Rattle.settle.proofs.Rounds.{starts-rise}
+use Rattle.settle.proofs.Heard.{untouched-more, untouched-all}
 
 -- ---- a test's answer
 
@@ -157,6 +158,47 @@ module _ {t : Table} {parent dist keys mins : List ℕ} where
     pub loose-all : mostNodes ≤ v → AllStand t parent dist keys mins
     loose-all l = loose-fewer (λ w s near. omega (arith, inside (h .lined) w near)) h
 
+-- ---- a link's end
+
+module _ {t : Table} (proper : Proper t) {parent : List ℕ} (rooted : Rooted t parent) {k : ℕ} (is-link : k < length (t .starts)) where
+  its-parent : getD parent (getD (t .ends) k 0) 0 ≡ parentAt parent (getD (t .ends) k 0)
+  its-parent = getD-any parent (getD (t .ends) k 0) 0 noLink (omega (arith, rooted .long, end-is-node proper k is-link))
+
+  -- a node that hangs by a link isn't the root
+  not-root : getD parent (getD (t .ends) k 0) 0 ≡ k → getD (t .ends) k 0 ≢ t .root
+  not-root is-parent e =
+      let none : parentAt parent (getD (t .ends) k 0) ≡ noLink = rw e (rooted .no-parent) in
+      omega (arith, its-parent, proper .few-links)
+
+-- ---- each row after the other
+
+module _ {t : Table} (proper : Proper t) {parent : List ℕ} (parents : Parents t parent) (rows : List ℕ) {i k : ℕ} (names : getD rows i 0 ≡ k)
+    (is-link : k < length (t .starts)) {dist keys mins : List ℕ} (h : StandApart t parent rows i dist keys mins) where
+  -- a node whose parent link the row names is that link's end
+  at-end : (w : ℕ) → parentAt parent w ≡ k → w ≡ getD (t .ends) k 0
+  at-end w e = sym (rw e at (parents .ends-at w (λ q. omega (arith, proper .few-links))))
+
+  but-end : (w : ℕ) → Untouched rows (i + 1) (parentAt parent w) → w ≢ getD (t .ends) k 0 → Untouched rows i (parentAt parent w)
+  but-end w u n = untouched-more rows i (parentAt parent w) u (λ e. n (at-end w (e ∙ names)))
+
+  pub rows-free : getD parent (getD (t .ends) k 0) 0 ≢ k → StandApart t parent rows (i + 1) dist keys mins
+  rows-free other = loose-fewer (λ w u near. untouched-more rows i (parentAt parent w) u (λ e. hung w (e ∙ names))) h
+    where
+      hung : (w : ℕ) → parentAt parent w ≡ k → ⊥
+      hung w e = other (its-parent proper (parents .rooted) is-link ∙ rw (at-end w e) at e)
+
+  module _ (is-parent : getD parent (getD (t .ends) k 0) 0 ≡ k) where
+    pub rows-carried : {b : Bool} → Says (Carries t dist k (getD (t .ends) k 0)) b → not b ≡ false → StandApart t parent rows (i + 1) dist keys mins
+    rows-carried says e =
+        loose-stands h but-end (λ u. loose.carried (rw (sym (its-parent proper (parents .rooted) is-link) ∙ is-parent) (told says e)))
+
+    pub rows-waits : {keys' mins' : List ℕ} → Noted dist keys (getD (t .ends) k 0) keys' mins' → StandApart t parent rows (i + 1) dist keys' mins'
+    rows-waits r = loose-noted h but-end (not-root proper (parents .rooted) is-link is-parent) r
+
+pub rows-all : {t : Table} {parent : List ℕ} (rows : List ℕ) {i : ℕ} {dist keys mins : List ℕ} → length rows ≤ i → StandApart t parent rows i dist keys mins
+    → AllStand t parent dist keys mins
+rows-all rows {i} past h = loose-fewer (λ w s near. untouched-all rows i past _) h
+
 -- ---- the nodes that hang on u, link by link
 
 -- if v hangs on u, then by a link before k
@@ -192,9 +234,6 @@ module _ {t : Table} (proper : Proper t) {parent : List ℕ} (rooted : Rooted t 
               let on = starts-rise proper k (parentAt parent v) (omega arith) (hangs .is-link) in
               absurd (other (omega (arith, is-first .leaves (omega (arith, n .from-first)), hangs .leaves)))
 
-      its-parent : getD parent (getD (t .ends) k 0) 0 ≡ parentAt parent (getD (t .ends) k 0)
-      its-parent = getD-any parent (getD (t .ends) k 0) 0 noLink (omega (arith, rooted .long, end-is-node proper k is-link))
-
       -- a node that hangs on u by link k is link k's end
       others : (v : ℕ) → (parentAt parent v ≡ k → netOf t .end k ≡ v → ⊥) → HungBefore t parent u (k + 1) v → HungBefore t parent u k v
       others v apart s hangs = at (ℕ-discrete (parentAt parent v) k)
@@ -207,7 +246,7 @@ module _ {t : Table} (proper : Proper t) {parent : List ℕ} (rooted : Rooted t 
       noting-free other =
           record {
             from-first = omega (arith, n .from-first);
-            stands = loose-fewer (λ v s near. others v (λ p e. other (its-parent ∙ rw (sym e) at p)) s) (n .stands);
+            stands = loose-fewer (λ v s near. others v (λ p e. other (its-parent proper rooted is-link ∙ rw (sym e) at p)) s) (n .stands);
           }
 
       pub noting-hung : getD parent (getD (t .ends) k 0) 0 ≡ k → {keys' mins' : List ℕ} → Noted dist keys (getD (t .ends) k 0) keys' mins'
@@ -215,10 +254,5 @@ module _ {t : Table} (proper : Proper t) {parent : List ℕ} (rooted : Rooted t 
       noting-hung is-parent r =
           record {
             from-first = omega (arith, n .from-first);
-            stands = loose-noted (n .stands) (λ w s apart. others w (λ p e. apart (sym e)) s) not-root r;
+            stands = loose-noted (n .stands) (λ w s apart. others w (λ p e. apart (sym e)) s) (not-root proper rooted is-link is-parent) r;
           }
-        where
-          not-root : getD (t .ends) k 0 ≢ t .root
-          not-root e =
-              let none : parentAt parent (getD (t .ends) k 0) ≡ noLink = rw e (rooted .no-parent) in
-              omega (arith, its-parent, proper .few-links)

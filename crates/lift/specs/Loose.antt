@@ -10,7 +10,7 @@ use lib.ListN.{length, getD}
 use Rattle.rules.specs.Keep.{count}
 use Rattle.rules.specs.Columns.{Table, netOf, mostNodes, unreached, noLink}
 use Rattle.queue.specs.Queue.{empty}
-use Rattle.settle.specs.Afoot.{distAt, keyAt, Lined, Begun}
+use Rattle.settle.specs.Afoot.{Untouched, distAt, keyAt, Lined, Begun, Firsts}
 use Rattle.settle.specs.Finding.{Carries}
 
 -- node v's parent link; there is none where there is no such node
@@ -39,6 +39,11 @@ pub record Rooted (t : Table) (parent : List ℕ) : Type 0 where
   pub long : length parent ≡ mostNodes
   pub no-parent : parentAt parent (t .root) ≡ noLink
 
+-- and each link among them ends at its node
+pub record Parents (t : Table) (parent : List ℕ) : Type 0 where
+  pub rooted : Rooted t parent
+  pub ends-at : (v : ℕ) → parentAt parent v ≢ noLink → netOf t .end (parentAt parent v) ≡ v
+
 -- each node that is sure stands; the root never waits
 pub record Loose (t : Table) (parent : List ℕ) (sure : ℕ → Type 0) (dist keys mins : List ℕ) : Type 0 where
   pub lined : Lined dist keys mins
@@ -60,6 +65,10 @@ AllStand t parent dist keys mins = Loose t parent (λ v. Unit {0}) dist keys min
 abbrev pub StandBut : Table → List ℕ → ℕ → List ℕ → List ℕ → List ℕ → Type 0
 StandBut t parent u dist keys mins = Loose t parent (λ v. Hangs t parent u v → ⊥) dist keys mins
 
+-- every node stands but those whose parent link a row from the i-th on touches
+abbrev pub StandApart : Table → List ℕ → List ℕ → ℕ → List ℕ → List ℕ → List ℕ → Type 0
+StandApart t parent rows i dist keys mins = Loose t parent (λ v. Untouched rows i (parentAt parent v)) dist keys mins
+
 -- before: any distances up to the mark, the root's 0, and nothing waits
 pub record Ready (t : Table) (dist keys mins : List ℕ) : Type 0 where
   pub lined : Lined dist keys mins
@@ -71,6 +80,20 @@ pub record Lifted (t : Table) (parent dist keys mins : List ℕ) : Type 0 where
   pub begun : Begun t dist keys mins
   pub carried : (v : ℕ) → distAt dist v < unreached → v ≢ t .root → Carries t dist (parentAt parent v) v
   pub none-waits : (v : ℕ) → keyAt keys v ≡ empty
+
+-- what lifting does to node v: nothing, or it goes to unreached and has no first link
+pub data Fate (dist dist' first' : List ℕ) (v : ℕ) : Type 0 where
+  stays : distAt dist' v ≡ distAt dist v → Fate dist dist' first' v
+  goes : distAt dist' v ≡ unreached → getD first' v noLink ≡ noLink → Fate dist dist' first' v
+
+pub record Fates (dist dist' first' : List ℕ) : Type 0 where
+  pub long : length first' ≡ mostNodes
+  pub each : (v : ℕ) → Fate dist dist' first' v
+
+-- what the answer says: no node was lifted and nothing changed, or some were
+pub data LiftedRows (starts dist first at' dist' first' : List ℕ) : Bool → Type 0 where
+  none : dist' ≡ dist → first' ≡ first → LiftedRows starts dist first at' dist' first' false
+  some : Firsts starts at' → Fates dist dist' first' → LiftedRows starts dist first at' dist' first' true
 
 -- node v waits if it is reached, and nothing else is changed
 pub record Noted (dist keys : List ℕ) (v : ℕ) (keys' mins' : List ℕ) : Type 0 where

@@ -1,13 +1,17 @@
 // Which distances still stand after costs have changed: a node whose parent link no longer carries it goes to
 // unreached, and so does every node that hangs on it.
+ghost use mathlib.Core.Path.{_≡_};
 ghost use Prim.Native.Nat.{_≤_, _<_};
+ghost use lib.ListN.{length};
 ghost use Rattle.rules.specs.Columns.{Proper, table, mostNodes, unreached};
-ghost use Rattle.settle.specs.Afoot.{Lined, FirstOf, Firsts};
+ghost use Rattle.settle.specs.Afoot.{Rows, Lined, FirstOf, Firsts};
 ghost use Rattle.settle.specs.Finding.{Offers, Carries};
-ghost use Rattle.lift.specs.Loose.{Says, Marked, Rooted, AllStand, StandBut, Ready, Lifted, Noted};
+ghost use Rattle.lift.specs.Loose.{Says, Marked, Rooted, Parents, AllStand, StandBut, StandApart, Ready, Lifted, Fates, LiftedRows, Noted};
 
 // The distance of an unreached node.
 const UNREACHED: u32 = 16_777_215;
+
+const NO_LINK: u16 = 65_535;
 
 // A link of this cost from a node at distance `from` offers no more than `to`. Whether it is usable is asked last.
 fn offers(from: u32, cost: u16, to: u32) -> bool
@@ -86,6 +90,37 @@ fn note_loose(
     }
 }
 
+// Each reached node waits whose parent link a row touches and that it carries no longer. Of the others nothing is asked.
+fn note_rows(
+    nodes: usize,
+    root: usize,
+    starts: &[u16],
+    ends: &[u16],
+    costs: &[u16],
+    changed: &[u16],
+    parent: &[u16; 256],
+    dist: &[u32; 256],
+    keys: &mut [u64; 256],
+    mins: &mut [u64; 72],
+)
+    requires { ⌜ Proper (table nodes root (now starts) (now ends) (now costs)) × Parents (table nodes root (now starts) (now ends) (now costs)) (now parent) × Rows (length (now starts)) (now changed) × StandApart (table nodes root (now starts) (now ends) (now costs)) (now parent) (now changed) 0 (now dist) (now keys) (now mins) ⌝ }
+    ensures { λ _. ⌜ AllStand (table nodes root (now (starts .entry)) (now (ends .entry)) (now (costs .entry))) (now (parent .entry)) (now (dist .entry)) (now (keys .exit)) (now (mins .exit)) ⌝ }
+{
+    let mut i: usize = 0;
+    while i < changed.len() {
+        let next = i + 1;
+        let link = changed[i];
+        let k = link as usize;
+        let end = ends[k] as usize;
+        if parent[end] == link {
+            if !carries(nodes, root, starts, ends, costs, link, end, dist) {
+                note(end, dist, keys, mins);
+            }
+        }
+        i = next;
+    }
+}
+
 // Node u went to unreached: each reached node that hangs on it waits. Links that leave one node follow each other.
 fn note_hung_on(
     nodes: usize,
@@ -117,7 +152,8 @@ fn note_hung_on(
     }
 }
 
-// Until no node waits: the waiting node of least distance goes to unreached.
+// Until no node waits: the waiting node of least distance goes to unreached, and loses its first link. By that a lifted
+// node is known.
 fn lift_noted(
     nodes: usize,
     root: usize,
@@ -127,17 +163,19 @@ fn lift_noted(
     at: &[u16; 256],
     parent: &[u16; 256],
     dist: &mut [u32; 256],
+    first: &mut [u16; 256],
     keys: &mut [u64; 256],
     mins: &mut [u64; 72],
 )
-    requires { ⌜ Proper (table nodes root (now starts) (now ends) (now costs)) × Firsts (now starts) (now at) × Rooted (table nodes root (now starts) (now ends) (now costs)) (now parent) × AllStand (table nodes root (now starts) (now ends) (now costs)) (now parent) (now dist) (now keys) (now mins) ⌝ }
-    ensures { λ _. ⌜ Lifted (table nodes root (now (starts .entry)) (now (ends .entry)) (now (costs .entry))) (now (parent .entry)) (now (dist .exit)) (now (keys .exit)) (now (mins .exit)) ⌝ }
+    requires { ⌜ Proper (table nodes root (now starts) (now ends) (now costs)) × Firsts (now starts) (now at) × Rooted (table nodes root (now starts) (now ends) (now costs)) (now parent) × AllStand (table nodes root (now starts) (now ends) (now costs)) (now parent) (now dist) (now keys) (now mins) × (length (now first) ≡ mostNodes) ⌝ }
+    ensures { λ _. ⌜ Lifted (table nodes root (now (starts .entry)) (now (ends .entry)) (now (costs .entry))) (now (parent .entry)) (now (dist .exit)) (now (keys .exit)) (now (mins .exit)) × Fates (now (dist .entry)) (now (dist .exit)) (now (first .exit)) ⌝ }
 {
     let mut key = queue::least(mins);
     while key != queue::EMPTY {
         let u = (key % 256) as usize;
         queue::take(keys, mins, u);
         dist[u] = UNREACHED;
+        first[u] = NO_LINK;
         note_hung_on(
             nodes,
             root,
@@ -155,7 +193,8 @@ fn lift_noted(
     }
 }
 
-// What is left has a walk at most as long as its distance, over these costs and whatever links the parents are.
+// Every node's parent link is asked. What is left has a walk at most as long as its distance, over these costs and
+// whatever links the parents are.
 pub fn lift(
     nodes: usize,
     root: usize,
@@ -165,10 +204,11 @@ pub fn lift(
     at: &[u16; 256],
     parent: &[u16; 256],
     dist: &mut [u32; 256],
+    first: &mut [u16; 256],
     keys: &mut [u64; 256],
     mins: &mut [u64; 72],
 )
-    requires { ⌜ Proper (table nodes root (now starts) (now ends) (now costs)) × Firsts (now starts) (now at) × Rooted (table nodes root (now starts) (now ends) (now costs)) (now parent) × Ready (table nodes root (now starts) (now ends) (now costs)) (now dist) (now keys) (now mins) ⌝ }
+    requires { ⌜ Proper (table nodes root (now starts) (now ends) (now costs)) × Firsts (now starts) (now at) × Rooted (table nodes root (now starts) (now ends) (now costs)) (now parent) × Ready (table nodes root (now starts) (now ends) (now costs)) (now dist) (now keys) (now mins) × (length (now first) ≡ mostNodes) ⌝ }
     ensures { λ _. ⌜ Lifted (table nodes root (now (starts .entry)) (now (ends .entry)) (now (costs .entry))) (now (parent .entry)) (now (dist .exit)) (now (keys .exit)) (now (mins .exit)) ⌝ }
 {
     note_loose(nodes, root, starts, ends, costs, parent, dist, keys, mins);
@@ -181,7 +221,59 @@ pub fn lift(
         at,
         parent,
         dist,
+        first,
         keys,
         mins,
     );
+}
+
+// The same where only the parent links that the rows touch are asked, since every other carries its node. Tells whether a
+// node was lifted; then `at` has each node's first leaving link.
+pub fn lift_rows(
+    nodes: usize,
+    root: usize,
+    starts: &[u16],
+    ends: &[u16],
+    costs: &[u16],
+    changed: &[u16],
+    at: &mut [u16; 256],
+    parent: &[u16; 256],
+    dist: &mut [u32; 256],
+    first: &mut [u16; 256],
+    keys: &mut [u64; 256],
+    mins: &mut [u64; 72],
+) -> bool
+    requires { ⌜ Proper (table nodes root (now starts) (now ends) (now costs)) × Parents (table nodes root (now starts) (now ends) (now costs)) (now parent) × Rows (length (now starts)) (now changed) × StandApart (table nodes root (now starts) (now ends) (now costs)) (now parent) (now changed) 0 (now dist) (now keys) (now mins) × (length (now first) ≡ mostNodes) ⌝ }
+    ensures { λ r. ⌜ Lifted (table nodes root (now (starts .entry)) (now (ends .entry)) (now (costs .entry))) (now (parent .entry)) (now (dist .exit)) (now (keys .exit)) (now (mins .exit)) × LiftedRows (now (starts .entry)) (now (dist .entry)) (now (first .entry)) (now (at .exit)) (now (dist .exit)) (now (first .exit)) r ⌝ }
+{
+    note_rows(
+        nodes,
+        root,
+        starts,
+        ends,
+        costs,
+        changed,
+        parent,
+        dist,
+        keys,
+        mins,
+    );
+    if queue::least(mins) == queue::EMPTY {
+        return false;
+    }
+    *at = settle::first_links(starts);
+    lift_noted(
+        nodes,
+        root,
+        starts,
+        ends,
+        costs,
+        at,
+        parent,
+        dist,
+        first,
+        keys,
+        mins,
+    );
+    true
 }

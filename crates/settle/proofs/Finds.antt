@@ -13,9 +13,9 @@ use Rattle.rules.specs.Tree.{Tight}
 use Rattle.rules.specs.Columns.{Table, Proper, netOf, rowsOf, arrays, mostNodes, unreached, noLink}
 use Rattle.queue.specs.Queue.{empty, Rekeyed}
 use Rattle.rules.proofs.Logic.{getD-any}
-use Rattle.settle.specs.Afoot.{Every, NotFrom, distAt, keyAt, Lined, Partly, Afoot, Settled, Offered, left, taken}
+use Rattle.settle.specs.Afoot.{Every, NotFrom, distAt, keyAt, Lined, Partly, Afoot, Settled, Offered, left, taken, Fallen, same, lower, Fell}
 use Rattle.settle.specs.Finding.{foundAt, Noted, passed, written, Lowered, Carries, Moved, Yields, Finding, Found, hungBy, GoesOn, Comes}
-use Rattle.settle.proofs.Offers.{Fallen, same, lower, Fell, OverLink, link-fell, others-still, end-is-node, waits-now}
+use Rattle.settle.proofs.Offers.{OverLink, link-fell, others-still, end-is-node, waits-now}
 
 -- what the code reads is the link found
 pub found-entry : (found : List ℕ) → length found ≡ mostNodes → (v : ℕ) → v < mostNodes → getD found v 0 ≡ foundAt found v
@@ -47,10 +47,6 @@ carries-still {t} {k = k} down still c =
 record Tie (t : Table) (k near : ℕ) (dist found' old : List ℕ) : Type 0 where
   pub tie : 0 < getD (t .costs) k 0 → near + getD (t .costs) k 0 ≡ distAt dist (getD (t .ends) k 0) → Moved old dist (getD (t .ends) k 0)
       → foundAt found' (getD (t .ends) k 0) ≤ k
-
--- every link found is one before link k
-pub record Early (k : ℕ) (found : List ℕ) : Type 0 where
-  pub early : (v : ℕ) → foundAt found v ≢ noLink → foundAt found v < k
 
 module _ {t : Table} (proper : Proper t) {done : ℕ → Type 0} {dist keys mins : List ℕ} (p : Partly t done dist keys mins)
     {k : ℕ} (is-link : k < length (t .starts)) {near : ℕ} (near-is : distAt dist (getD (t .starts) k 0) ≡ near)
@@ -145,28 +141,11 @@ module _ {t : Table} (proper : Proper t) {done : ℕ → Type 0} {dist keys mins
       at (written up l e f) = rw f (length-set found (getD (t .ends) k 0) k ∙ long)
 
   -- link k is done too
-  module _ {done₀ : ℕ → Type 0} {dist₀ keys₀ found₀ : List ℕ} (g : GoesOn t done₀ dist₀ keys₀ found₀ done dist keys found)
-      {done' : ℕ → Type 0} (others : (j : ℕ) → done' j → j ≢ k → done j) where
-    pub on-more : Lowered dist (getD (t .ends) k 0) (near + getD (t .costs) k 0) (getD (t .costs) k 0) k found'
-        → GoesOn t done₀ dist₀ keys₀ found₀ done' dist' keys' found'
-    on-more l = record { long = noted-long; on = λ old f. finding-more (g .on old f) (record { tie = λ up e moved. l .lowered up e }) others }
-
-    -- where every link found is smaller
-    pub on-next : Early k found → GoesOn t done₀ dist₀ keys₀ found₀ done' dist' keys' found'
-    on-next early = record { long = noted-long; on = λ old f. finding-more (g .on old f) (record { tie = λ up e moved. at (g .on old f) moved n }) others }
-      where
-        at : {old : List ℕ} → Finding t done old dist keys found → Moved old dist (getD (t .ends) k 0) → NotedLink t k near dist found found'
-            → foundAt found' (getD (t .ends) k 0) ≤ k
-        at f moved (passed e q) = rw q (omega (arith, early .early (getD (t .ends) k 0) (f .some (getD (t .ends) k 0) moved)))
-        at f moved (written up l e q) =
-            rw (q, getD-set-same found (getD (t .ends) k 0) k noLink (omega (arith, long, end-is-node proper k is-link))) (omega arith)
-
-  pub early-more : Early k found → Early (k + 1) found'
-  early-more early = record { early = λ v some. at v some (hears v) }
-    where
-      at : (v : ℕ) → foundAt found' v ≢ noLink → Hears t k near dist found dist' found' v → foundAt found' v < k + 1
-      at v some (unmoved d e) = omega (arith, early .early v (rw (← e) some))
-      at v some (told q up d l e m) = omega arith
+  pub on-more : {done₀ : ℕ → Type 0} {dist₀ keys₀ found₀ : List ℕ} → GoesOn t done₀ dist₀ keys₀ found₀ done dist keys found
+      → {done' : ℕ → Type 0} → ((j : ℕ) → done' j → j ≢ k → done j)
+      → Lowered dist (getD (t .ends) k 0) (near + getD (t .costs) k 0) (getD (t .costs) k 0) k found'
+      → GoesOn t done₀ dist₀ keys₀ found₀ done' dist' keys' found'
+  on-more g others l = record { long = noted-long; on = λ old f. finding-more (g .on old f) (record { tie = λ up e moved. l .lowered up e }) others }
 
 -- ---- what is done
 
@@ -207,9 +186,6 @@ on-taken {t} {dist} {keys} {found} {u} {keys'} r long = record { long = long; on
         }
 
 -- ---- how it starts and ends
-
-pub early-none : {found : List ℕ} → ((v : ℕ) → foundAt found v ≡ noLink) → Early 0 found
-early-none none = record { early = λ v some. absurd (some (none v)) }
 
 -- nothing has moved, and no link is found
 pub finding-none : {t : Table} {done : ℕ → Type 0} {dist keys found : List ℕ} → ((v : ℕ) → foundAt found v ≡ noLink) → Finding t done dist dist keys found

@@ -7,9 +7,8 @@ use native.Mathlib.Omega.{arith}
 use native.Mathlib.Decide.{ℕ-discrete}
 use lib.ListN.{length, getD, set, replicate, length-set, length-replicate, getD-replicate}
 use lib.Seq.{getD-set-same, getD-set-other}
-use Rattle.rules.specs.Columns.{Table, Proper, mostNodes}
-use Rattle.settle.specs.Afoot.{Firsts, Leaving}
-use Rattle.settle.proofs.Offers.{start-is-node}
+use Rattle.rules.specs.Columns.{mostNodes}
+use Rattle.settle.specs.Afoot.{Firsts}
 
 -- of the links from k on, `first` is the first that leaves u
 pub record FirstFrom (starts : List ℕ) (k u first : ℕ) : Type 0 where
@@ -58,7 +57,3 @@ module _ (starts : List ℕ) where
                 apart : (j : ℕ) → j < getD at u 0 → Dec (j ≡ k - 1) → k - 1 ≤ j → getD starts j 0 ≢ u
                 apart j b (yes e) a = λ q. d (sym (rw e at q))
                 apart j b (no m) a = f .before j (omega arith) b
-
--- an accepted table's starts
-pub leaving : {t : Table} → Proper t → Leaving (t .starts)
-leaving p = record { few = p .few-links; nodes = start-is-node p }

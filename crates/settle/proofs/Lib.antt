@@ -2,6 +2,7 @@
 pub mod Reach
 pub mod Offers
 pub mod Finds
+pub mod Heard
 pub mod Weight
 pub mod Rounds
 pub mod Firsts

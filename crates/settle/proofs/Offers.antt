@@ -13,7 +13,7 @@ use Rattle.rules.specs.Net.{Usable, along}
 use Rattle.rules.specs.Columns.{Table, Proper, netOf, mostNodes, unreached}
 use Rattle.queue.specs.Queue.{empty, keyOf, Queue, Rekeyed}
 use Rattle.rules.proofs.Logic.{getD-any}
-use Rattle.settle.specs.Afoot.{distAt, keyAt, Keyed, idle, waits, Lined, Within, Begun, Calm, Partly, Offered, left, taken}
+use Rattle.settle.specs.Afoot.{distAt, keyAt, Keyed, idle, waits, Lined, Within, Begun, Calm, Partly, Offered, left, taken, Fallen, same, lower, Fell}
 
 -- ---- entries
 
@@ -33,13 +33,17 @@ end-is-node p k l = omega (arith, p .ends k l, p .few-nodes)
 
 -- ---- what an offer does to each node
 
--- v is as before, or waits with a smaller distance
-pub data Fallen (dist keys dist' keys' : List ℕ) (v : ℕ) : Type 0 where
-  same : distAt dist' v ≡ distAt dist v → keyAt keys' v ≡ keyAt keys v → Fallen dist keys dist' keys' v
-  lower : v < mostNodes → distAt dist' v < distAt dist v → keyAt keys' v ≡ keyOf (distAt dist' v) v → Fallen dist keys dist' keys' v
+pub fell-none : {dist keys : List ℕ} → Fell dist keys dist keys
+fell-none = record { each = λ v. same refl refl }
 
-pub record Fell (dist keys dist' keys' : List ℕ) : Type 0 where
-  pub each : (v : ℕ) → Fallen dist keys dist' keys' v
+pub fell-then : {dist keys dist' keys' dist'' keys'' : List ℕ} → Fell dist keys dist' keys' → Fell dist' keys' dist'' keys'' → Fell dist keys dist'' keys''
+fell-then {dist} {keys} {dist'} {keys'} {dist''} {keys''} f g = record { each = λ v. at v (f .each v) (g .each v) }
+  where
+    at : (v : ℕ) → Fallen dist keys dist' keys' v → Fallen dist' keys' dist'' keys'' v → Fallen dist keys dist'' keys'' v
+    at v (same d k) (same d' k') = same (d' ∙ d) (k' ∙ k)
+    at v (same d k) (lower n d' k') = lower n (omega arith) k'
+    at v (lower n d k) (same d' k') = lower n (omega arith) (rw d' (k' ∙ k))
+    at v (lower n d k) (lower m d' k') = lower m (omega arith) k'
 
 lined-fell : {dist keys mins dist' keys' mins' : List ℕ} → Lined dist keys mins → Fell dist keys dist' keys' → Queue keys' mins'
     → length dist' ≡ mostNodes → Lined dist' keys' mins'
@@ -69,7 +73,7 @@ module _ {dist keys mins : List ℕ} (h : Lined dist keys mins) {end : ℕ} (is-
       at v (no d) = same (getD-set-other dist end v sum unreached d) (getD-set-other keys end v (keyOf sum end) empty d)
 
   pub offered-fell : {sum cost : ℕ} {dist' keys' : List ℕ} → Offered dist keys end sum cost dist' keys' → Fell dist keys dist' keys'
-  offered-fell (left enough d k) = rw (d, k) (record { each = λ v. same refl refl })
+  offered-fell (left enough d k) = rw (d, k) fell-none
   offered-fell (taken up less d k) = rw (d, k) (fell-set less)
 
   -- what the code reads is the node's distance

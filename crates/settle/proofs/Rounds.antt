@@ -1,23 +1,22 @@
--- The three loops: over the links that leave a node, over every link, and until nothing waits; and how they start.
--- Assumes nothing.
+-- Two loops, over the links that leave a node and until nothing waits, and how they start. Assumes nothing.
 use mathlib.Core.Path.{_≡_, sym, _∙_}
 use mathlib.Core.Logic.{_≢_}
 use mathlib.Core.List.{List}
 use Prim.Native.Nat.{ℕ, zero, suc, _+_, _-_, _%_, _≤_, _<_}
 use native.Mathlib.Omega.{arith}
-use native.Mathlib.Nat.{not-suc-le-zero}
 use native.Mathlib.Decide.{decLt, ℕ-discrete}
-use lib.ListN.{length, getD, set, replicate, length-replicate, getD-replicate, List·getD-eq-default}
+use lib.ListN.{length, getD, set, replicate, length-replicate}
 use lib.Seq.{getD-set-same, getD-set-other}
 use Rattle.rules.specs.Net.{Usable, at-root}
-use Rattle.rules.specs.Columns.{Table, Proper, netOf, table, mostNodes, unreached, noLink}
+use Rattle.rules.specs.Columns.{Table, Proper, netOf, table, mostNodes, unreached}
 use Rattle.rules.specs.Demands.{Narrow}
 use Rattle.rules.proofs.Judged.{legal, roomy}
 use Rattle.queue.specs.Queue.{empty, keyOf, Least, LeastKey, Rekeyed}
 use Rattle.queue.proofs.Laws.{least-key, queue-none}
 use Rattle.rules.proofs.Logic.{getD-any}
-use Rattle.settle.specs.Afoot.{NotFrom, distAt, keyAt, Keyed, idle, waits, Lined, Begun, Partly, Afoot, Settled, weight, FirstOf}
-use Rattle.settle.specs.Finding.{foundAt, Alone}
+use Rattle.hang.proofs.Parents.{filled}
+use Rattle.settle.specs.Afoot.{NotFrom, distAt, keyAt, Keyed, idle, waits, Lined, Partly, Afoot, Settled, weight, FirstOf}
+use Rattle.settle.specs.Finding.{Alone}
 use Rattle.settle.proofs.Reach.{Sure, sums}
 use Rattle.settle.proofs.Offers.{inside, partly-fewer, OverLink, link-fell, partly-more, others-still, entry, key-falls, lined-taken}
 use Rattle.settle.proofs.Weight.{weight-fell, weight-taken}
@@ -87,14 +86,6 @@ module _ {t : Table} {u first : ℕ} (f : FirstOf (t .starts) u first) {dist key
 
       pub leaves-all : Afoot t dist keys mins
       leaves-all = partly-fewer leaves-done (h .partly)
-
--- ---- every link
-
-pub through-none : {t : Table} {dist keys mins : List ℕ} → Begun t dist keys mins → Partly t (λ j. j < 0) dist keys mins
-through-none b = record { begun = b; calm = λ k u l. absurd (not-suc-le-zero l) }
-
-pub through-all : {t : Table} {k : ℕ} {dist keys mins : List ℕ} → length (t .starts) ≤ k → Partly t (λ j. j < k) dist keys mins → Afoot t dist keys mins
-through-all l p = partly-fewer (λ j ok any. omega (arith, ok .is-link)) p
 
 -- ---- until nothing waits
 
@@ -171,18 +162,6 @@ settled {t} {dist} {keys} {mins} {key} proper narrow p least none =
     record { sums = sums sure (legal proper) (roomy proper narrow); lined = p .begun .lined; none-waits = rest }
 
 -- ---- where the loop starts
-
--- the same number everywhere
-filled : (n a v : ℕ) → getD (replicate n a) v a ≡ a
-filled n a v = at (decLt v n)
-  where
-    at : Dec (v < n) → getD (replicate n a) v a ≡ a
-    at (yes l) = getD-replicate n v a a l
-    at (no l) = List·getD-eq-default (replicate n a) a (omega (arith, length-replicate n a))
-
--- no link is found
-pub none-found : {found : List ℕ} → found ≡ replicate mostNodes noLink → (length found ≡ mostNodes) × ((v : ℕ) → foundAt found v ≡ noLink)
-none-found e = rw e (length-replicate mostNodes noLink, filled mostNodes noLink)
 
 -- nothing waits
 pub lined-none : {dist : List ℕ} → length dist ≡ mostNodes → ((v : ℕ) → distAt dist v ≤ unreached)

@@ -14,8 +14,7 @@ use borrow.Author.Tests.{ne-eqb}
 use Rattle.rules.specs.Keep.{one}
 use Rattle.rules.specs.Columns.{mostNodes}
 use Rattle.queue.specs.Queue.{empty}
-use Rattle.settle.specs.Afoot.{keyAt, sumBelow, weightAt, weight}
-use Rattle.settle.proofs.Offers.{Fallen, same, lower, Fell}
+use Rattle.settle.specs.Afoot.{keyAt, Fallen, same, lower, Fell, sumBelow, weightAt, weight}
 
 -- ---- sums
 

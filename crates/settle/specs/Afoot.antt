@@ -9,7 +9,7 @@ use lib.Dec.{eqb}
 use lib.ListN.{length, getD, set}
 use Rattle.rules.specs.Net.{Net, Usable, Walk}
 use Rattle.rules.specs.Keep.{one}
-use Rattle.rules.specs.Columns.{Table, netOf, mostNodes, mostLinks, unreached}
+use Rattle.rules.specs.Columns.{Table, netOf, mostNodes, unreached}
 use Rattle.rules.specs.Sums.{Sums}
 use Rattle.queue.specs.Queue.{empty, keyOf, Queue}
 
@@ -54,15 +54,24 @@ pub record Partly (t : Table) (done : ℕ → Type 0) (dist keys mins : List ℕ
   pub begun : Begun t dist keys mins
   pub calm : (k : ℕ) → Usable (netOf t) k → done k → Calm t dist keys k
 
--- which links are done: every one, none, or every one that doesn't leave u
+-- which links are done: every one, every one that doesn't leave u, or every one that no row from the i-th on may have made
+-- better or worse
 abbrev pub Every : ℕ → Type 0
 Every k = Unit {0}
 
-abbrev pub NotOne : ℕ → Type 0
-NotOne k = ⊥
-
 abbrev pub NotFrom : List ℕ → ℕ → ℕ → Type 0
 NotFrom starts u k = getD starts k 0 ≢ u
+
+-- a row that names link j touches that link
+abbrev pub Touches : ℕ → ℕ → Type 0
+Touches j k = j ≡ k
+
+abbrev pub Untouched : List ℕ → ℕ → ℕ → Type 0
+Untouched rows i k = (m : ℕ) → i ≤ m → m < length rows → ¬ (Touches (getD rows m 0) k)
+
+-- each row names one of so many links
+pub record Rows (links : ℕ) (rows : List ℕ) : Type 0 where
+  pub named : (m : ℕ) → m < length rows → getD rows m 0 < links
 
 abbrev pub Afoot : Table → List ℕ → List ℕ → List ℕ → Type 0
 Afoot t dist keys mins = Partly t Every dist keys mins
@@ -79,6 +88,14 @@ pub data Offered (dist keys : List ℕ) (end sum cost : ℕ) (dist' keys' : List
   left : (0 < cost → distAt dist end ≤ sum) → dist' ≡ dist → keys' ≡ keys → Offered dist keys end sum cost dist' keys'
   taken : 0 < cost → sum < distAt dist end → dist' ≡ set dist end sum → keys' ≡ set keys end (keyOf sum end)
       → Offered dist keys end sum cost dist' keys'
+
+-- v is as before, or waits with a smaller distance
+pub data Fallen (dist keys dist' keys' : List ℕ) (v : ℕ) : Type 0 where
+  same : distAt dist' v ≡ distAt dist v → keyAt keys' v ≡ keyAt keys v → Fallen dist keys dist' keys' v
+  lower : v < mostNodes → distAt dist' v < distAt dist v → keyAt keys' v ≡ keyOf (distAt dist' v) v → Fallen dist keys dist' keys' v
+
+pub record Fell (dist keys dist' keys' : List ℕ) : Type 0 where
+  pub each : (v : ℕ) → Fallen dist keys dist' keys' v
 
 -- the sum of a number of each node below n
 unfoldable pub sumBelow : (ℕ → ℕ) → ℕ → ℕ
@@ -103,8 +120,3 @@ pub record FirstOf (starts : List ℕ) (u first : ℕ) : Type 0 where
 pub record Firsts (starts at : List ℕ) : Type 0 where
   pub long : length at ≡ mostNodes
   pub each : (u : ℕ) → u < mostNodes → FirstOf starts u (getD at u 0)
-
--- at most 4,096 links, each from one of 256 nodes
-pub record Leaving (starts : List ℕ) : Type 0 where
-  pub few : length starts ≤ mostLinks
-  pub nodes : (k : ℕ) → k < length starts → getD starts k 0 < mostNodes

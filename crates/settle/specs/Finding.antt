@@ -1,7 +1,8 @@
 -- The links that offers come by, kept beside the distances: on their way to each node's smallest tight link. Assumes
 -- nothing.
 use mathlib.Core.Path.{_≡_}
-use mathlib.Core.Logic.{_≢_}
+use mathlib.Core.Logic.{_⊎_, _≢_}
+use mathlib.Core.Bool.{Bool, true}
 use mathlib.Core.List.{List}
 use Prim.Native.Nat.{ℕ, _+_, _≤_, _<_}
 use lib.ListN.{length, getD, set}
@@ -10,7 +11,7 @@ use Rattle.rules.specs.Tree.{Rows, Tight}
 use Rattle.rules.specs.Keep.{Smallest}
 use Rattle.rules.specs.Columns.{Table, netOf, rowsOf, arrays, mostNodes, unreached, noLink}
 use Rattle.queue.specs.Queue.{empty}
-use Rattle.settle.specs.Afoot.{distAt, keyAt, Every}
+use Rattle.settle.specs.Afoot.{distAt, keyAt, Calm, Partly, Every, Offered, Fell}
 
 -- the link found for node v; there is none where there is no such node
 abbrev pub foundAt : List ℕ → ℕ → ℕ
@@ -26,6 +27,12 @@ pub data Noted (dist found : List ℕ) (end sum cost link : ℕ) (found' : List 
 -- where the sum equals the distance, no larger link is left
 pub record Lowered (dist : List ℕ) (end sum cost link : ℕ) (found' : List ℕ) : Type 0 where
   pub lowered : 0 < cost → sum ≡ distAt dist end → foundAt found' end ≤ link
+
+-- what offering a link does, from a start that may be unreached
+pub data Told (dist keys found : List ℕ) (start end cost link : ℕ) (dist' keys' found' : List ℕ) : Type 0 where
+  unheard : unreached ≤ distAt dist start → dist' ≡ dist → keys' ≡ keys → found' ≡ found → Told dist keys found start end cost link dist' keys' found'
+  heard : Offered dist keys end (distAt dist start + cost) cost dist' keys' → Noted dist found end (distAt dist start + cost) cost link found'
+      → Lowered dist end (distAt dist start + cost) cost link found' → Told dist keys found start end cost link dist' keys' found'
 
 -- a link of this cost from a node at distance `from` offers no more than `to`
 pub record Offers (from cost to : ℕ) : Type 0 where
@@ -75,6 +82,16 @@ pub record Found (t : Table) (old dist found : List ℕ) : Type 0 where
 pub record GoesOn (t : Table) (done : ℕ → Type 0) (dist keys found : List ℕ) (done' : ℕ → Type 0) (dist' keys' found' : List ℕ) : Type 0 where
   pub long : length found' ≡ mostNodes
   pub on : (old : List ℕ) → Finding t done old dist keys found → Finding t done' old dist' keys' found'
+
+-- more links are done, and what is known goes on
+pub record Heard (t : Table) (done : ℕ → Type 0) (dist keys found : List ℕ) (done' : ℕ → Type 0) (dist' keys' mins' found' : List ℕ) : Type 0 where
+  pub partly : Partly t done' dist' keys' mins'
+  pub fell : Fell dist keys dist' keys'
+  pub goes-on : GoesOn t done dist keys found done' dist' keys' found'
+
+-- link k had nothing less to offer, or leads to a node without a first link, if nodes were lifted
+abbrev pub CalmOr : Table → List ℕ → List ℕ → Bool → List ℕ → ℕ → Type 0
+CalmOr t dist keys lifted first k = Calm t dist keys k ⊎ ((lifted ≡ true) × (getD first (netOf t .end k) noLink ≡ noLink))
 
 -- and comes to its end
 pub record Comes (t : Table) (dist keys found dist' found' : List ℕ) : Type 0 where

@@ -6,10 +6,16 @@ ghost use mathlib.Core.List.{List};
 ghost use Prim.Native.Nat.{ℕ, _≤_, _<_};
 ghost use lib.ListN.{length, getD, replicate};
 ghost use lib.Dec.{ltb};
-ghost use Rattle.rules.specs.Columns.{Proper, table, mostNodes, unreached, noLink};
+ghost use Rattle.rules.specs.Columns.{Proper, table, mostNodes, mostCost, unreached};
 ghost use Rattle.queue.specs.Queue.{empty};
-ghost use Rattle.settle.specs.Afoot.{distAt, Lined, Begun, Partly, Every, NotOne, NotFrom, Afoot, Settled, Offered, weight, FirstOf, Firsts, Leaving};
-ghost use Rattle.settle.specs.Finding.{Noted, Lowered, GoesOn, Comes, Alone};
+ghost use Rattle.hang.specs.Passes.{Leaving};
+ghost use Rattle.settle.specs.Afoot.{distAt, Lined, Begun, Calm, Partly, Every, NotFrom, Untouched, Rows, Afoot, Settled, Offered, weight, FirstOf, Firsts};
+ghost use Rattle.settle.specs.Finding.{Noted, Lowered, Told, GoesOn, Heard, CalmOr, Comes, Alone};
+
+// The distance of an unreached node.
+const UNREACHED: u32 = 16_777_215;
+
+const NO_LINK: u16 = 65_535;
 
 // For each node the first link that leaves it, or the number of links where none does: the last store is the first
 // link's.
@@ -123,21 +129,8 @@ fn offer_from(
     }
 }
 
-// A guess at the first link of a way that ends with `link`: the link itself where it leaves the root, else the guess of
-// the node that it leaves; by no link, none. Nothing is promised of guesses: whoever hangs the nodes asks in one pass
-// whether they are right.
-fn guess_by(root: usize, starts: &[u16], guesses: &[u16; 256], link: u16) -> u16
-    requires { ⌜ Leaving (now starts) ⌝ }
-{
-    let k = link as usize;
-    if starts.len() <= k {
-        return link;
-    }
-    let start = starts[k] as usize;
-    if start == root { link } else { guesses[start] }
-}
-
-// Until no node waits. With each node that is taken, its first link is guessed.
+// Until no node waits. With each node that is taken, its first link is guessed from those of the nodes taken before it.
+// Nothing is promised of guesses: whoever hangs the nodes asks in one pass whether they are right.
 pub fn settle(
     nodes: usize,
     root: usize,
@@ -158,7 +151,7 @@ pub fn settle(
     while key != queue::EMPTY {
         let u = (key % 256) as usize;
         queue::take(keys, mins, u);
-        guesses[u] = guess_by(root, starts, guesses, found[u]);
+        guesses[u] = hang::first_by(root, starts, guesses, found[u]);
         offer_from(
             nodes,
             root,
@@ -176,30 +169,82 @@ pub fn settle(
     }
 }
 
-// Each link is offered once, where nothing is known of the links yet, and none is found. They come in the order of their
-// numbers: of two with one sum the first has the smaller number, so an equal sum never lowers a link that was found here.
-// Nodes that stand have a link with an equal sum each, and which that is can't be foretold, so asking isn't cheap.
-pub fn offer_all(
+// A link is offered, unless its start is unreached: nothing is ever added to the mark.
+fn offer_link(
+    dist: &mut [u32; 256],
+    keys: &mut [u64; 256],
+    mins: &mut [u64; 72],
+    found: &mut [u16; 256],
+    start: u16,
+    end: u16,
+    cost: u32,
+    link: u16,
+)
+    requires { ⌜ Lined (now dist) (now keys) (now mins) × (start < 256) × (end < 256) × (cost ≤ mostCost) × (length (now found) ≡ mostNodes) ⌝ }
+    ensures { λ _. ⌜ Lined (now (dist .exit)) (now (keys .exit)) (now (mins .exit)) × (length (now (found .exit)) ≡ mostNodes) × Told (now (dist .entry)) (now (keys .entry)) (now (found .entry)) start end cost link (now (dist .exit)) (now (keys .exit)) (now (found .exit)) ⌝ }
+{
+    let from = start as usize;
+    let near = dist[from];
+    if near < UNREACHED {
+        offer(dist, keys, mins, found, end, near + cost, cost, link);
+    }
+}
+
+// Each link into a node without a first link is offered, if nodes were lifted: those are among them.
+pub fn offer_into(
     nodes: usize,
     root: usize,
     starts: &[u16],
     ends: &[u16],
     costs: &[u16],
+    lifted: bool,
+    first: &[u16; 256],
     dist: &mut [u32; 256],
     keys: &mut [u64; 256],
     mins: &mut [u64; 72],
     found: &mut [u16; 256],
 )
-    requires { ⌜ Proper (table nodes root (now starts) (now ends) (now costs)) × Begun (table nodes root (now starts) (now ends) (now costs)) (now dist) (now keys) (now mins) × (now found ≡ replicate 256 noLink) ⌝ }
-    ensures { λ _. ⌜ Afoot (table nodes root (now (starts .entry)) (now (ends .entry)) (now (costs .entry))) (now (dist .exit)) (now (keys .exit)) (now (mins .exit)) × GoesOn (table nodes root (now (starts .entry)) (now (ends .entry)) (now (costs .entry))) NotOne (now (dist .entry)) (now (keys .entry)) (now (found .entry)) Every (now (dist .exit)) (now (keys .exit)) (now (found .exit)) ⌝ }
+    requires { ⌜ Proper (table nodes root (now starts) (now ends) (now costs)) × Begun (table nodes root (now starts) (now ends) (now costs)) (now dist) (now keys) (now mins) × (length (now first) ≡ mostNodes) × (length (now found) ≡ mostNodes) ⌝ }
+    ensures { λ _. ⌜ Heard (table nodes root (now (starts .entry)) (now (ends .entry)) (now (costs .entry))) (Calm (table nodes root (now (starts .entry)) (now (ends .entry)) (now (costs .entry))) (now (dist .entry)) (now (keys .entry))) (now (dist .entry)) (now (keys .entry)) (now (found .entry)) (CalmOr (table nodes root (now (starts .entry)) (now (ends .entry)) (now (costs .entry))) (now (dist .entry)) (now (keys .entry)) lifted (now (first .entry))) (now (dist .exit)) (now (keys .exit)) (now (mins .exit)) (now (found .exit)) ⌝ }
 {
+    if !lifted {
+        return;
+    }
     let mut k: usize = 0;
     while k < starts.len() {
-        let start = starts[k] as usize;
+        let next = k + 1;
+        let end = ends[k] as usize;
+        if first[end] == NO_LINK {
+            let cost = costs[k] as u32;
+            offer_link(dist, keys, mins, found, starts[k], ends[k], cost, k as u16);
+        }
+        k = next;
+    }
+}
+
+// The link of each row is offered.
+pub fn offer_rows(
+    nodes: usize,
+    root: usize,
+    starts: &[u16],
+    ends: &[u16],
+    costs: &[u16],
+    changed: &[u16],
+    dist: &mut [u32; 256],
+    keys: &mut [u64; 256],
+    mins: &mut [u64; 72],
+    found: &mut [u16; 256],
+)
+    requires { ⌜ Proper (table nodes root (now starts) (now ends) (now costs)) × Partly (table nodes root (now starts) (now ends) (now costs)) (Untouched (now changed) 0) (now dist) (now keys) (now mins) × Rows (length (now starts)) (now changed) × (length (now found) ≡ mostNodes) ⌝ }
+    ensures { λ _. ⌜ Heard (table nodes root (now (starts .entry)) (now (ends .entry)) (now (costs .entry))) (Untouched (now (changed .entry)) 0) (now (dist .entry)) (now (keys .entry)) (now (found .entry)) Every (now (dist .exit)) (now (keys .exit)) (now (mins .exit)) (now (found .exit)) ⌝ }
+{
+    let mut i: usize = 0;
+    while i < changed.len() {
+        let link = changed[i];
+        let k = link as usize;
         let cost = costs[k] as u32;
-        let sum = dist[start] + cost;
-        offer_less(dist, keys, mins, found, ends[k], sum, cost, k as u16);
-        k += 1;
+        offer_link(dist, keys, mins, found, starts[k], ends[k], cost, link);
+        i += 1;
     }
 }
 

@@ -1,15 +1,17 @@
 -- What the parts' answers say of the whole job. Assumes nothing.
 use mathlib.Core.Path.{_≡_, refl, sym, _∙_}
-use mathlib.Core.List.{List}
-use Prim.Native.Nat.{ℕ, _≤_, _<_}
+use mathlib.Core.Logic.{_≢_}
+use mathlib.Core.List.{List, [], _∷_}
+use Prim.Native.Nat.{ℕ, suc, _≤_, _<_}
 use native.Mathlib.Omega.{arith}
 use native.Mathlib.Decide.{decLt, ℕ-discrete}
 use lib.Dec.{ltb}
-use lib.ListN.{length}
+use lib.ListN.{length, getD, set, take}
+use lib.Seq.{length-take-le, getD-take, getD-set-other}
 use borrow.Author.Tests.{lt-ltb}
 use Rattle.rules.specs.Tree.{Fits}
 use Rattle.rules.specs.Columns.{Table, Tree, Proper, Whole, netOf, rowsOf, emptyTree, applied, after, unreached}
-use Rattle.rules.specs.Refusals.{Verdict, accepted, refused, when, judgeLinks, judgeTree, judgeBatch, judgeUpdate, judgeAsked}
+use Rattle.rules.specs.Refusals.{Verdict, accepted, refused, when, judgeLinks, judgeTree, judgeBatch, judgeUpdate, judgeAsked, linkAt}
 use Rattle.rules.specs.Jobs.{changedBelow, Built, built, not-built, Updated, updated, not-updated, Pathed, not-pathed}
 use Rattle.rules.specs.Demands.{Narrow}
 use Rattle.rules.specs.declared.Change.{Change}
@@ -18,14 +20,15 @@ use Rattle.rules.proofs.Judged.{legal, links-proper, tree-accepted, not-refused
 use Rattle.rules.proofs.OneOutcome.{tree-links, update-links, after-proper}
 use Rattle.rules.proofs.Accepted.{largest-distance}
 use Rattle.judge.proofs.Laws.{refusal}
-use Rattle.batch.specs.Rows.{Named}
+use Rattle.batch.specs.Rows.{rowsOfColumns, Named}
+use Rattle.batch.proofs.Laws.{links-fewer, costs-fewer, row-at}
 use Rattle.batch.proofs.Batches.{rows-named}
 use Rattle.changed.specs.Listed.{Listed}
 use Rattle.path.specs.Climb.{Traces}
 use Rattle.path.specs.declared.Traced.{Traced}
 use Rattle.path.specs.declared.Traced.the-variants.{Written, TooShort}
 use Rattle.path.proofs.Paths.{parentsOf, traces-pathed}
-use Rattle.grow.specs.Grown.{Grown, Old, Regrown}
+use Rattle.grow.specs.Grown.{Grown, Old, Fitted, Regrown}
 
 -- ---- fresh build
 
@@ -42,6 +45,23 @@ module _ {t : Table} {v : Verdict} (is : v ≡ judgeLinks t) where
   build-accepted a g = rw a (built (sym is ∙ a) (g .whole) (g .fresh))
 
 -- ---- an accepted update
+
+-- no more rows than links
+pub rows-fewer : (links costs : List ℕ) → length (rowsOfColumns links costs) ≤ length links
+rows-fewer links costs = at (decLt (length links) (length costs))
+  where
+    at : Dec (length links < length costs) → length (rowsOfColumns links costs) ≤ length links
+    at (yes l) = omega (arith, links-fewer links costs (omega arith))
+    at (no l) = omega (arith, costs-fewer links costs (omega arith))
+
+-- a link that no row names keeps its cost
+applied-other : (batch : List Change) (costs : List ℕ) (k : ℕ) → ((row : ℕ) → row < length batch → linkAt batch row ≢ k)
+    → getD (applied batch costs) k 0 ≡ getD costs k 0
+unfolding applied linkAt
+applied-other [] costs k apart = refl
+applied-other (row ∷ rows) costs k apart =
+    applied-other rows (set costs (row .link) (row .cost)) k (λ m l. apart (suc m) (omega arith))
+    ∙ getD-set-other costs (row .link) k (row .cost) 0 (λ e. apart 0 (omega arith) (sym e))
 
 module _ (t : Table) (old : Tree) (batch : List Change) (list : List ℕ) (e : judgeUpdate t old batch list ≡ accepted) where
   pub update-proper : Proper t
@@ -67,7 +87,7 @@ module _ (t : Table) (old : Tree) (batch : List Change) (list : List ℕ) (e : j
       at (no l) = omega arith
 
   -- the old tree is one to regrow from, over the new costs
-  pub update-old : Whole old → Narrow (t .costs) → Old (after t batch) old
+  update-old : Whole old → Narrow (t .costs) → Old (after t batch) old
   update-old w c =
       let fine = tree-accepted t old w (update-links t old batch list e) in
       let short = fits-shortest (legal (fine .0)) (fine .1) in
@@ -80,6 +100,27 @@ module _ (t : Table) (old : Tree) (batch : List Change) (list : List ℕ) (e : j
           at (yes q) d = omega arith
           at (no q) (yes l) = omega (arith, largest-distance (record { table = fine .0; whole = w; fits = fine .1 }) c v l q)
           at (no q) (no l) = absurd (omega (arith, walk-node (legal (fine .0)) (fits-shortest (legal (fine .0)) (fine .1) .least v q .walk)))
+
+  -- and it fitted while the rows' links had other costs
+  pub update-fitted : (changed newcosts : List ℕ) → batch ≡ rowsOfColumns changed newcosts → Whole old → Narrow (t .costs)
+      → Fitted (after t batch) (take (length batch) changed) old
+  update-fitted changed newcosts is w c =
+      record {
+        old = update-old w c;
+        named = record { named = λ m l. rw (link-at m (in-batch m l)) (rw (← update-proper .costs-long) at (update-named .named m (in-batch m l))) };
+        costs = t .costs;
+        same = λ k apart. sym (applied-other batch (t .costs) k (λ m l e. apart m (omega arith) (rw length-take-changed l) (link-at m l ∙ e)));
+        fits = tree-accepted t old w (update-links t old batch list e) .1;
+      }
+    where
+      length-take-changed : length (take (length batch) changed) ≡ length batch
+      length-take-changed = rw is (length-take-le (length (rowsOfColumns changed newcosts)) changed (rows-fewer changed newcosts))
+
+      in-batch : (m : ℕ) → m < length (take (length batch) changed) → m < length batch
+      in-batch m l = omega (arith, length-take-changed)
+
+      link-at : (m : ℕ) → m < length batch → getD (take (length batch) changed) m 0 ≡ linkAt batch m
+      link-at m l = getD-take (length batch) changed m 0 l ∙ rw is (sym (row-at changed newcosts m (rw is at l) .link))
 
   pub update-updated : {new : Tree} {costs listed : List ℕ} {count : ℕ} {v : Verdict} → v ≡ accepted → Regrown (after t batch) (old .parent) new
       → costs ≡ applied batch (t .costs) → Listed old new (t .nodes) list listed count → Updated t old batch list v new costs listed count

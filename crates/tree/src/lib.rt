@@ -220,12 +220,14 @@ impl Tree {
             };
         }
         batch::write_costs(changed, newcosts, costs);
+        let rows = batch::row_count(changed, newcosts);
         grow::regrow(
             nodes,
             root,
             starts,
             ends,
             costs,
+            &changed[..rows],
             &mut dist,
             &mut parent,
             &mut first,

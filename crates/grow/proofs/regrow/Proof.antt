@@ -1,43 +1,27 @@
--- `grow::regrow` meets its contract: what still stands of the old tree is the seed, each link is offered once, and the
--- loop and the choice of parents do the rest. Assumes nothing.
+-- `grow::regrow` meets its contract: where the loop has not to run, the old tree is the next one. Assumes nothing.
 use mathlib.Core.Path.{refl}
-use Rattle.settle.proofs.Firsts.{leaving}
-use Rattle.grow.proofs.Laws.{ready, rooted, hangable, kept-smallest, regrown}
+use borrow.Author.Needs.{needs}
+use Rattle.grow.proofs.Laws.{has-to-run, regrown-stopped}
 use Rattle.grow.proofs.regrow.Statement.{statement}
 use Rattle.grow.proofs.regrow.Tie as tie
 
-first-links-requires : tie.Need-first-links-requires
-first-links-requires c κs = leaving (c .before .before .before .pre .0)
-
-lift-requires : tie.Need-lift-requires
-lift-requires c κs =
-    let pre = c .before .before .before .before .before .before .before .before .before .pre in
-    (pre .0, c .before .before .before .before .before .first-links .ensures, rooted (pre .1), ready (pre .1))
-
-offer-all-requires : tie.Need-offer-all-requires
-offer-all-requires c κs = (c .before .before .before .before .before .before .before .before .before .before .before .before .before .before .pre .0, c .before .before .before .before .lift .ensures .begun, refl)
-
-settle-requires : tie.Need-settle-requires
-settle-requires c κs =
-    let offered = c .before .before .before .before .before .before .offer-all .ensures in
-    (c .before .before .before .before .before .before .before .before .before .before .before .before .before .before .before .before .before .before .before .before .before .pre .0, c .before .before .before .before .before .before .before .before .before .before .before .before .before .before .before .before .before .first-links .ensures, offered .0, offered .1 .long, c .before .before .before .before .before .before .before .before .before .before .before .before .before .before .before .before .before .before .before .before .before .pre .1 .whole .first)
-
-rehang-requires : tie.Need-rehang-requires
-rehang-requires c κs =
-    let pre = c .before .before .before .before .before .before .before .before .before .before .before .before .before .before .before .before .before .before .before .before .before .before .before .before .before .before .pre in
-    let settled = c .before .before .before .before .settle .ensures in
-    (hangable (pre .0) (settled .0) (pre .1 .whole .parent) (settled .2), kept-smallest (pre .0) (settled .0) (c .before .before .before .before .before .before .before .before .before .before .before .before .before .before .before .before .lift .ensures) (c .before .before .before .before .before .before .before .before .before .before .before .offer-all .ensures .1) (settled .1))
+reseed-requires : tie.Need-reseed-requires
+reseed-requires c κs =
+    let pre = c .before .before .before .before .before .before .before .before .before .before .before .pre in
+    (pre .0, pre .1, refl, refl, refl)
 
 returns : tie.Need-returns
-returns c = regrown (c .before .before .before .before .before .settle .ensures .0) (c .rehang .ensures)
+returns c =
+    regrown-stopped (c .before .before .before .before .before .before .before .before .before .before .before .before .before .pre .0) (c .before .before .before .before .before .before .before .before .before .before .before .before .before .pre .1) (c .before .reseed .ensures .1) (c .if1 .taken)
+
+finish-requires : tie.Need-finish-requires
+finish-requires c κs =
+    let pre = c .before .before .before .before .before .before .before .before .before .before .before .before .before .before .before .before .before .before .before .before .pre in
+    let runs = has-to-run (c .before .before .before .before .before .before .before .before .reseed .ensures .1) (c .before .before .before .before .before .before .before .if1 .left) in
+    (pre .0, runs .0, c .before .before .before .before .before .before .before .before .reseed .ensures .0, pre .1 .old .whole .parent, runs .1)
+
+returns-2 : tie.Need-returns-2
+returns-2 c = search needs
 
 pub regrow-spec : {M : Type 1} → statement M
-regrow-spec =
-    tie.close
-    (tie.spec
-    first-links-requires
-    lift-requires
-    offer-all-requires
-    settle-requires
-    rehang-requires
-    returns)
+regrow-spec = tie.close (tie.spec reseed-requires returns finish-requires returns-2)

@@ -7,7 +7,7 @@ use borrow.Author.Needs.{needs}
 use Rattle.rules.specs.Columns.{mostNodes}
 use Rattle.hang.specs.Passes.{Standing}
 use Rattle.hang.proofs.Parents.{tells-no, tells-yes}
-use Rattle.hang.proofs.Firsts.{placed, standing-none, standing-more, standing-not}
+use Rattle.hang.proofs.Firsts.{standing-none, standing-more, standing-not}
 use Rattle.hang.proofs.firsts_stand.Statement.{statement}
 use Rattle.hang.proofs.firsts_stand.Tie as tie
 
@@ -35,12 +35,12 @@ element-copy-out-first-by c = search needs
 first-by-requires : tie.Need-first-by-requires Inv-loop μ-loop
 first-by-requires c κs =
     let pre = c .before .before .before .before .before .pre in
-    (placed (pre .0) (omega arith), pre .1)
+    (pre .1, pre .2)
 
 returns : tie.Need-returns Inv-loop μ-loop
 returns c =
     let pre = c .before .before .before .before .before .before .before .pre in
-    tells-no (standing-not (pre .0 .long) (pre .1) (omega arith) (c .before .first-by .ensures) (c .if1 .taken))
+    tells-no (standing-not (pre .0 .long) (pre .2) (omega arith) (c .before .first-by .ensures) (c .if1 .taken))
 
 add-v : tie.Need-add-v Inv-loop μ-loop
 add-v c = search needs
@@ -51,7 +51,7 @@ loop-less c = search needs
 loop-again : tie.Need-loop-again Inv-loop μ-loop
 loop-again c =
     let pre = c .before .before .before .before .before .before .before .pre in
-    (search needs, standing-more (pre .0 .long) (pre .1) (omega arith) (c .before .first-by .ensures) (c .before .before .before .before .before .loop .inv .1) (c .if1 .left))
+    (search needs, standing-more (pre .0 .long) (pre .2) (omega arith) (c .before .first-by .ensures) (c .before .before .before .before .before .loop .inv .1) (c .if1 .left))
 
 returns-2 : tie.Need-returns-2 Inv-loop μ-loop
 returns-2 c =

@@ -11,7 +11,7 @@ firsts-stand-requires c κs = search needs
 returns : tie.Need-returns
 returns c =
     let pre = c .before .before .before .before .pre in
-    standing-firsts (pre .0) (c .before .firsts-stand .ensures .holds (c .if1 .taken)) (pre .2)
+    standing-firsts (pre .0) (c .before .firsts-stand .ensures .holds (c .if1 .taken)) (pre .1) (pre .3)
 
 forget-requires : tie.Need-forget-requires
 forget-requires c κs = search needs
@@ -19,7 +19,7 @@ forget-requires c κs = search needs
 first-links-requires : tie.Need-first-links-requires
 first-links-requires c κs =
     let pre = c .before .before .before .before .before .before .before .pre in
-    (pre .0, rw (c .before .forget .ensures) known-none, pre .1)
+    (pre .0, rw (c .before .forget .ensures) known-none, pre .2)
 
 returns-2 : tie.Need-returns-2
 returns-2 c = search needs

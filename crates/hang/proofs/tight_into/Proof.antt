@@ -3,7 +3,7 @@
 use native.Mathlib.Omega.{arith}
 use borrow.Author.Needs.{needs}
 use Rattle.rules.specs.Columns.{unreached}
-use Rattle.hang.proofs.Parents.{within}
+use Rattle.rules.proofs.Logic.{getD-any}
 use Rattle.hang.proofs.tight_into.Statement.{statement}
 use Rattle.hang.proofs.tight_into.Tie as tie
 
@@ -26,8 +26,8 @@ returns : tie.Need-returns
 returns c =
     let s = c .before .before .before in
     rw (
-      within (s .args .dist .now) {v = s .args .start} unreached 0 (omega arith),
-      within (s .args .dist .now) {v = s .args .v} unreached 0 (omega arith),
+      getD-any (s .args .dist .now) (s .args .start) unreached 0 (omega arith),
+      getD-any (s .args .dist .now) (s .args .v) unreached 0 (omega arith),
     )
     (c .tight .ensures)
 

@@ -1,24 +1,28 @@
--- `lift::lift_noted` meets its contract. The invariant: every node stands. The measure is how many are reached. Assumes nothing.
+-- `lift::lift_noted` meets its contract. The invariant: every node stands, and what was lifted is known. The measure is
+-- how many are reached. Assumes nothing.
+use mathlib.Core.Path.{refl}
 use native.Mathlib.Omega.{arith}
 use borrow.Author.Needs.{needs}
 use Rattle.rules.specs.Columns.{table}
-use Rattle.lift.specs.Loose.{reachedCount}
 use Rattle.settle.proofs.Rounds.{chosen}
-use Rattle.lift.proofs.Lifts.{Lifting, lift-stands, lift-falls, lifted}
+use Rattle.lift.specs.Loose.{stays, reachedCount}
+use Rattle.lift.proofs.Lifts.{Lifting, lift-stands, lift-falls, fates-more, lifted}
 use Rattle.lift.proofs.lift_noted.Statement.{statement}
 use Rattle.lift.proofs.lift_noted.Tie as tie
 
 abbrev Inv-loop : tie.InvT-loop
-Inv-loop nodes root starts ends costs at parent dist₀ keys₀ mins₀ key₀ dist keys mins key = Lifting (table nodes root starts ends costs) parent dist keys mins key
+Inv-loop nodes root starts ends costs at parent dist₀ first₀ keys₀ mins₀ key₀ dist first keys mins key =
+    Lifting (table nodes root starts ends costs) parent dist₀ dist first keys mins key
 
 abbrev μ-loop : tie.MeasureT-loop
-μ-loop nodes root starts ends costs at parent dist₀ keys₀ mins₀ key₀ dist keys mins key = reachedCount dist
+μ-loop nodes root starts ends costs at parent dist₀ first₀ keys₀ mins₀ key₀ dist first keys mins key = reachedCount dist
 
 least-requires : tie.Need-least-requires Inv-loop μ-loop
 least-requires c κs = search needs
 
 loop-holds : tie.Need-loop-holds Inv-loop μ-loop
-loop-holds c = record { stands = c .before .before .before .before .before .pre .3; least = c .least .ensures }
+loop-holds c =
+    record { stands = c .before .before .before .before .before .pre .3; least = c .least .ensures; fates = record { long = c .before .before .before .before .before .pre .4; each = λ v. stays refl } }
 
 take-requires : tie.Need-take-requires Inv-loop μ-loop
 take-requires c κs = (c .before .before .before .loop .inv .stands .lined .queue, omega arith)
@@ -28,6 +32,12 @@ mul-dist c = search needs
 
 element-write-dist : tie.Need-element-write-dist Inv-loop μ-loop
 element-write-dist c = omega (arith, c .before .before .before .before .loop .inv .stands .lined .long)
+
+mul-first : tie.Need-mul-first Inv-loop μ-loop
+mul-first c = search needs
+
+element-write-first : tie.Need-element-write-first Inv-loop μ-loop
+element-write-first c = omega (arith, c .before .before .before .before .loop .inv .fates .long)
 
 mul-note-hung-on : tie.Need-mul-note-hung-on Inv-loop μ-loop
 mul-note-hung-on c = search needs
@@ -52,10 +62,15 @@ loop-less c =
     lift-falls (inv .stands) w (c .before .before .before .before .before .before .before .take .ensures)
 
 loop-again : tie.Need-loop-again Inv-loop μ-loop
-loop-again c = record { stands = c .before .before .note-hung-on .ensures; least = c .least2 .ensures }
+loop-again c =
+    let inv = c .before .before .before .before .before .before .before .before .before .before .before .loop .inv in
+    let w = chosen (inv .stands .lined) (inv .least) (c .before .before .before .before .before .before .before .before .before .before .loop-test .taken) in
+    record { stands = c .before .before .note-hung-on .ensures; least = c .least2 .ensures; fates = fates-more (inv .fates) (inv .stands .lined .long) (w .is-node) }
 
 returns : tie.Need-returns Inv-loop μ-loop
-returns c = lifted (c .before .loop .inv) (c .loop-test .left)
+returns c =
+    let inv = c .before .loop .inv in
+    (lifted (inv .stands) (inv .least) (c .loop-test .left), inv .fates)
 
 pub lift-noted-spec : {M : Type 1} → statement M
 lift-noted-spec =
@@ -68,6 +83,8 @@ lift-noted-spec =
     take-requires
     mul-dist
     element-write-dist
+    mul-first
+    element-write-first
     mul-note-hung-on
     element-copy-out-note-hung-on
     note-hung-on-requires

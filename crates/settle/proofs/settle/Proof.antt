@@ -12,7 +12,7 @@ use Rattle.settle.specs.Afoot.{Every, Afoot, weight}
 use Rattle.settle.specs.Finding.{GoesOn}
 use Rattle.settle.proofs.Finds.{on-none, on-then, on-taken, comes}
 use Rattle.settle.proofs.Rounds.{Chosen, chosen, partly-taken, lighter, settled}
-use Rattle.settle.proofs.Firsts.{leaving}
+use Rattle.hang.proofs.Whole.{leaving}
 use Rattle.settle.proofs.settle.Statement.{statement}
 use Rattle.settle.proofs.settle.Tie as tie
 
@@ -40,14 +40,15 @@ loop-holds c =
 take-requires : tie.Need-take-requires Inv-loop μ-loop
 take-requires c κs = (c .before .before .before .loop .inv .0 .begun .lined .queue, node (c .before .before) .is-node)
 
-element-copy-out-guess-by : tie.Need-element-copy-out-guess-by Inv-loop μ-loop
-element-copy-out-guess-by c = node (c .before .before .before .before) .is-node
+element-copy-out-first-by : tie.Need-element-copy-out-first-by Inv-loop μ-loop
+element-copy-out-first-by c = node (c .before .before .before .before) .is-node
 
-mul-guess-by : tie.Need-mul-guess-by Inv-loop μ-loop
-mul-guess-by c = omega (arith, element-copy-out-guess-by c)
+mul-first-by : tie.Need-mul-first-by Inv-loop μ-loop
+mul-first-by c = omega (arith, element-copy-out-first-by c)
 
-guess-by-requires : tie.Need-guess-by-requires Inv-loop μ-loop
-guess-by-requires c κs = leaving (c .before .before .before .before .before .before .before .before .before .before .before .before .pre .0)
+first-by-requires : tie.Need-first-by-requires Inv-loop μ-loop
+first-by-requires c κs =
+    (leaving (c .before .before .before .before .before .before .before .before .before .before .before .before .pre .0), c .before .before .before .before .before .before .loop .inv .3)
 
 element-write-guesses : tie.Need-element-write-guesses Inv-loop μ-loop
 element-write-guesses c = omega (arith, node (c .before .before .before .before .before .before) .is-node, c .before .before .before .before .before .before .before .loop .inv .3)
@@ -103,9 +104,9 @@ settle-spec =
     least-requires
     loop-holds
     take-requires
-    mul-guess-by
-    element-copy-out-guess-by
-    guess-by-requires
+    mul-first-by
+    element-copy-out-first-by
+    first-by-requires
     mul-guesses
     element-write-guesses
     mul-offer-from

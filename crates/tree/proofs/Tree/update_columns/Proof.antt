@@ -1,8 +1,9 @@
 -- `tree::Tree::update_columns` meets its contract: a refused batch leaves all as it came; an accepted one writes its costs, and
 -- the tree regrown over them is the next one. Assumes nothing.
-use mathlib.Core.Path.{_≡_, sym, _∙_}
+use mathlib.Core.Path.{_≡_, refl, sym, _∙_}
 use mathlib.Core.List.{List}
 use native.Mathlib.Omega.{arith}
+use lib.Seq.{length-take-le}
 use borrow.Author.Needs.{needs}
 use Rattle.rules.specs.Columns.{Table, Tree, Whole, table, arrays}
 use Rattle.rules.specs.Refusals.{accepted, judgeUpdate}
@@ -11,7 +12,7 @@ use Rattle.rules.specs.Demands.{Narrow}
 use Rattle.rules.specs.declared.Change.{Change}
 use Rattle.rules.proofs.OneOutcome.{number-accepts, number-refuses}
 use Rattle.batch.specs.Rows.{rowsOfColumns}
-use Rattle.tree.proofs.Laws.{update-refused, update-proper, update-after, update-named, update-room, update-old, update-updated}
+use Rattle.tree.proofs.Laws.{update-refused, update-proper, update-after, update-named, update-room, rows-fewer, update-fitted, update-updated}
 use Rattle.tree.proofs.Tree.update_columns.Statement.{statement}
 use Rattle.tree.proofs.Tree.update_columns.Tie as tie
 
@@ -57,20 +58,29 @@ returns c =
 write-costs-requires : tie.Need-write-costs-requires
 write-costs-requires c κs = let at = c .before in let entry = c .before .before .before .before .before .before .before .before .before .before .before .before .before .before .before .before .before .before in update-named (table-of entry) (tree-of entry) (batch-of entry) (entry .args .list .now) (judged at)
 
+row-count-requires : tie.Need-row-count-requires
+row-count-requires c κs = search needs
+
+slice-aggregate-regrow : tie.Need-slice-aggregate-regrow
+slice-aggregate-regrow c =
+    let entry = c .before .before .before .before .before .before .before .before .before .before .before .before .before .before .before .before .before .before .before .before .before .before .before .before in
+    let rows = c .before .before .row-count in
+    sym (length-take-le (rows .result) (entry .args .changed .now) (rw (rows .ensures) (rows-fewer (entry .args .changed .now) (entry .args .newcosts .now))))
+
 regrow-requires : tie.Need-regrow-requires
 regrow-requires c κs =
-    let at = c .before .before .before .before .before .before .before .before in
-    let entry = c .before .before .before .before .before .before .before .before .before .before .before .before .before .before .before .before .before .before .before .before .before .before .before .before .before in
+    let at = c .before .before .before .before .before .before .before .before .before .before in
+    let entry = c .before .before .before .before .before .before .before .before .before .before .before .before .before .before .before .before .before .before .before .before .before .before .before .before .before .before .before in
     let e = judged at in
-    rw (c .before .before .before .before .before .before .write-costs .ensures) (
+    rw (c .before .before .before .before .before .before .before .before .write-costs .ensures, c .before .before .before .before .before .row-count .ensures) (
       update-after (table-of entry) (tree-of entry) (batch-of entry) (entry .args .list .now) e,
-      update-old (table-of entry) (tree-of entry) (batch-of entry) (entry .args .list .now) e (whole at) (narrow at),
+      update-fitted (table-of entry) (tree-of entry) (batch-of entry) (entry .args .list .now) e (entry .args .changed .now) (entry .args .newcosts .now) refl (whole at) (narrow at),
     )
 
 list-changed-requires : tie.Need-list-changed-requires
 list-changed-requires c κs =
-    let at = c .before .before .before .before .before .before .before .before .before .before .before .before .before .before .before .before .before in
-    let entry = c .before .before .before .before .before .before .before .before .before .before .before .before .before .before .before .before .before .before .before .before .before .before .before .before .before .before .before .before .before .before .before .before .before .before in (
+    let at = c .before .before .before .before .before .before .before .before .before .before .before .before .before .before .before .before .before .before .before in
+    let entry = c .before .before .before .before .before .before .before .before .before .before .before .before .before .before .before .before .before .before .before .before .before .before .before .before .before .before .before .before .before .before .before .before .before .before .before .before in (
       whole at,
       c .before .before .before .before .before .before .before .before .regrow .ensures .whole,
       update-proper (table-of entry) (tree-of entry) (batch-of entry) (entry .args .list .now) (judged at) .few-nodes,
@@ -85,9 +95,9 @@ same-length-4 c = search needs
 
 returns-2 : tie.Need-returns-2
 returns-2 c =
-    let at = c .before .before .before .before .before .before .before .before .before .before .before .before .before .before .before .before .before .before .before .before in
-    let entry = c .before .before .before .before .before .before .before .before .before .before .before .before .before .before .before .before .before .before .before .before .before .before .before .before .before .before .before .before .before .before .before .before .before .before .before .before .before in
-    let costs = c .before .before .before .before .before .before .before .before .before .before .before .before .before .before .before .before .before .before .write-costs .ensures in
+    let at = c .before .before .before .before .before .before .before .before .before .before .before .before .before .before .before .before .before .before .before .before .before .before in
+    let entry = c .before .before .before .before .before .before .before .before .before .before .before .before .before .before .before .before .before .before .before .before .before .before .before .before .before .before .before .before .before .before .before .before .before .before .before .before .before .before .before in
+    let costs = c .before .before .before .before .before .before .before .before .before .before .before .before .before .before .before .before .before .before .before .before .write-costs .ensures in
     update-updated (table-of entry) (tree-of entry) (batch-of entry) (entry .args .list .now) (judged at) (told-accepted at)
     (rw costs at (c .before .before .before .before .before .before .before .before .before .before .before .regrow .ensures)) costs (c .before .before .list-changed .ensures)
 
@@ -101,6 +111,8 @@ update-columns-spec =
     same-length-2
     returns
     write-costs-requires
+    row-count-requires
+    slice-aggregate-regrow
     regrow-requires
     list-changed-requires
     same-length-3
