@@ -13,7 +13,7 @@ pub struct Rows {
     pub count: usize,
 }
 
-// One row stored in place.
+// One row stored in place: the columns are lent, so that no row copies them.
 fn put(links: &mut [u16; 257], costs: &mut [u16; 257], at: usize, link: u16, cost: u16)
     requires { ⌜ at < mostRead ⌝ }
     ensures { λ _. ⌜ (now (links .exit) ≡ set (now (links .entry)) at link) × (now (costs .exit) ≡ set (now (costs .entry)) at cost) ⌝ }

@@ -101,9 +101,11 @@ module _ {M : Type 1} (𝓤 : URA M) (H : Heap 𝓤) (A : Atoms 𝓤) (W : Given
     abbrev Called : SProp 𝓤
     Called = sep 𝓤 (Put 𝓤 H A mem run .pre to-put) (sep 𝓤 (sem 𝓤 H A (Kept column l₃ 0 x)) (sem 𝓤 H A (Kept column l₄ 0 y)))
 
+    -- what `put` says of the columns' last values
     abbrev Stored : List ℕ → List ℕ → Type 0
     Stored ls cs = (ls ≡ set links at link) × (cs ≡ set costs at cost)
 
+    -- once it has returned, both columns are back, with the row stored
     returned : (w : Val) → ent 𝓤 (⋆ 𝓤 H A (raw (Put 𝓤 H A mem run .post to-put w) ∷ ‵ (Kept column l₃ 0 x) ∷ ‵ (Kept column l₄ 0 y) ∷ []))
         (H .⇛ (sep 𝓤 (sem 𝓤 H A (Nothing .own tt (w ∷ []))) (sep 𝓤 (sem 𝓤 H A (Lies l₃ (set links at link))) (sem 𝓤 H A (Lies l₄ (set costs at cost))))))
     returned w =
@@ -117,6 +119,7 @@ module _ {M : Type 1} (𝓤 : URA M) (H : Heap 𝓤) (A : Atoms 𝓤) (W : Given
         use3 W (later (‵ (Lies l₃ (zs .0)))) (comes-back column l₃ 0 𝓤 H A W x (zs .0)) $ await ! tt $
         rewrite ! 0 (λ (us : List ℕ). ‵ (Lies l₃ us)) (e .0) refl $ rewrite ! 1 (λ (us : List ℕ). ‵ (Lies l₄ us)) (e .1) refl $ at-once ! $ keep ! (3 ∷ 0 ∷ 1 ∷ []) $ done !)))
 
+  -- both columns are lent
   lends-both : at < mostRead → link < 2 ^ 16 → cost < 2 ^ 16 → ent 𝓤 (⋆ 𝓤 H A (‵ (Lies l₃ links) ∷ ‵ (Lies l₄ costs) ∷ [])) (H .⇛ (ex 𝓤 (λ (loans : Loan × Loan). Called (loans .0) (loans .1))))
   lends-both room link-fits cost-fits =
       qed W (‵ (Lies l₃ links) ∷ ‵ (Lies l₄ costs) ∷ []) ∵ updating ! $
