@@ -10,7 +10,7 @@ use lib.ListN.{length, getD}
 use borrow.Author.Count.{below-more}
 use borrow.Author.Tests.{lt-ltb, le-ltb, eq-eqb, ne-eqb}
 use Rattle.rules.specs.Net.{Net}
-use Rattle.rules.specs.Tree.{Rows}
+use Rattle.rules.specs.Fit.{Rows}
 use Rattle.rules.specs.Tests.{usable}
 use Rattle.rules.specs.Columns.{Table, Proper, netIn, mostNodes, noLink}
 use Rattle.rules.specs.declared.Profile.{Profile}

@@ -1,11 +1,11 @@
 -- The pass over the rows: which are right by themselves, what links offer left aside. Assumes nothing.
 use mathlib.Core.Path.{_≡_}
-use mathlib.Core.Bool.{Bool, true, false, _&&_, not}
+use mathlib.Core.Bool.{Bool, true, false, _&&_, not, cond}
 use Prim.Native.Nat.{ℕ, _+_, _≤_, _<_}
 use lib.Dec.{eqb, ltb}
 use Rattle.rules.specs.Net.{Net}
-use Rattle.rules.specs.Tree.{Rows}
-use Rattle.rules.specs.Tests.{pick, usable}
+use Rattle.rules.specs.Fit.{Rows}
+use Rattle.rules.specs.Tests.{usable}
 use Rattle.rules.specs.Columns.{mostNodes}
 
 -- this distance, and neither a parent nor a first link
@@ -18,7 +18,7 @@ tightBy mark v dist end cost from = eqb end v && not (eqb from mark) && eqb (fro
 
 -- the first link of a node by its parent link, where that starts, and the first link there
 abbrev pub firstOf : ℕ → ℕ → ℕ → ℕ → ℕ
-firstOf root parent start first = pick (eqb start root) parent first
+firstOf root parent start first = cond (eqb start root) parent first
 
 -- link k is tight for v, makes v's first link what it is, and is usable
 module _ (N : Net) (dist first : ℕ → ℕ) where
@@ -38,8 +38,8 @@ module _ (N : Net) (r : Rows) where
   unfoldable pub rowAlone : ℕ → Bool
   unfolding hungAlone
   rowAlone v =
-      pick (eqb v (N .root)) (emptyAt (N .none) 0 (r .dist v) (r .parent v) (r .first v))
-      (pick (eqb (r .dist v) (N .mark)) (emptyAt (N .none) (N .mark) (r .dist v) (r .parent v) (r .first v)) (hungAlone v))
+      cond (eqb v (N .root)) (emptyAt (N .none) 0 (r .dist v) (r .parent v) (r .first v))
+      (cond (eqb (r .dist v) (N .mark)) (emptyAt (N .none) (N .mark) (r .dist v) (r .parent v) (r .first v)) (hungAlone v))
 
   -- the rows before v are
   pub record RightBefore (v : ℕ) : Type 0 where

@@ -9,7 +9,7 @@ use lib.Dec.{leb}
 use lib.ListN.{length}
 use borrow.Author.Tests.{lt-ltb, leb-false}
 use Rattle.rules.specs.Tests.{firstBelow}
-use Rattle.rules.specs.Columns.{Table, Tree}
+use Rattle.rules.specs.Columns.{Table, Arrays}
 use Rattle.rules.specs.Refusals.{accepted, linkAt, namesNoLink, namesAgain, firstBadRow, judgeRows, judgeTree, judgeBatch}
 use Rattle.rules.specs.Answers.{told}
 use Rattle.rules.specs.declared.Answer.{Answer}
@@ -23,7 +23,7 @@ or-no-l true b e = absurd (true-false e)
 or-no-l false b e = refl
 
 -- refusals 7 to 9 are what is left once the tree fits
-pub batch-decides : {batch : List Change} {answer : Answer} (t : Table) (tree : Tree) → BatchJudged (length (t .starts)) batch answer
+pub batch-decides : {batch : List Change} {answer : Answer} (t : Table) (tree : Arrays) → BatchJudged (length (t .starts)) batch answer
     → judgeTree t tree ≡ accepted → told answer ≡ judgeBatch t tree batch
 unfolding judgeBatch
 batch-decides t tree j e = rw e (j .verdict t refl)

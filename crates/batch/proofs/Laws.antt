@@ -1,7 +1,7 @@
 -- The rows of two columns, the pass that judges them, and the writing of their costs. Assumes nothing.
 use mathlib.Core.Path.{_≡_, refl, sym, ap, _∙_}
 use mathlib.Core.Logic.{_≢_}
-use mathlib.Core.Bool.{Bool, true, false, _||_}
+use mathlib.Core.Bool.{Bool, true, false, _||_, cond}
 use mathlib.Core.List.{List, [], _∷_}
 use Prim.Native.Nat.{ℕ, zero, suc, _+_, _≤_, _<_}
 use native.Mathlib.Omega.{arith}
@@ -13,7 +13,7 @@ use lib.ListN.{length, getD, set, drop, replicate, length-set, length-replicate,
 use lib.Seq.{drop-cons, getD-set-same, getD-set-other}
 use borrow.Author.Count.{below-none, below-more}
 use borrow.Author.Tests.{lt-ltb, le-ltb, le-leb, lt-leb, eq-eqb, ne-eqb}
-use Rattle.rules.specs.Tests.{pick, firstBelow}
+use Rattle.rules.specs.Tests.{firstBelow}
 use Rattle.rules.specs.Columns.{Table, applied, mostRows}
 use Rattle.rules.specs.Refusals.{linkAt, namesNoLink, namesAgain, firstBadRow, judgeRows}
 use Rattle.rules.specs.declared.Change.{Change}

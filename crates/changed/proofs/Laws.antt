@@ -1,6 +1,6 @@
 -- One node more on the list of changed nodes. Assumes nothing.
 use mathlib.Core.Path.{_≡_, refl, sym, ap, _∙_, subst}
-use mathlib.Core.Bool.{Bool, true, false, _&&_, not}
+use mathlib.Core.Bool.{Bool, true, false, _&&_, not, cond}
 use mathlib.Core.List.{List, [], _∷_, _++_, append-assoc, append-nil}
 use Prim.Native.Nat.{ℕ, zero, suc, _+_, _≤_, _<_}
 use native.Mathlib.Numerals.{add-one}
@@ -8,15 +8,14 @@ use native.Mathlib.Omega.{arith}
 use lib.Dec.{eqb}
 use lib.ListN.{length, getD, set, drop, length-append}
 use lib.Seq.{set-append-seam, drop-cons}
-use Rattle.rules.specs.Tree.{Rows}
-use Rattle.rules.specs.Tests.{pick}
-use Rattle.rules.specs.Columns.{Tree, Whole, rowsOf, unreached, noLink}
+use Rattle.rules.specs.Fit.{Rows}
+use Rattle.rules.specs.Columns.{Arrays, Whole, rowsOf, unreached, noLink}
 use Rattle.rules.specs.Jobs.{written, differs, changedBelow}
 use Rattle.rules.proofs.Logic.{getD-any}
-use Rattle.changed.specs.Listed.{Listed}
+use Rattle.changed.specs.Listed.{ListedBelow}
 
 -- the code's test of two rows is the rules'
-pub differs-by : {old new : Tree} → Whole old → Whole new → (v : ℕ) → v < 256
+pub differs-by : {old new : Arrays} → Whole old → Whole new → (v : ℕ) → v < 256
     → not (eqb (getD (old .dist) v 0) (getD (new .dist) v 0) && eqb (getD (old .parent) v 0) (getD (new .parent) v 0) && eqb (getD (old .first) v 0) (getD (new .first) v 0))
     ≡ differs (rowsOf old) (rowsOf new) v
 unfolding differs
@@ -45,30 +44,30 @@ module _ (old new : Rows) where
   few zero = omega arith
   few (suc n) = at (differs old new n) (few n)
     where
-      at : (b : Bool) → length (changedBelow old new n) ≤ n → length (changedBelow old new n ++ pick b (n ∷ []) []) ≤ suc n
+      at : (b : Bool) → length (changedBelow old new n) ≤ n → length (changedBelow old new n ++ cond b (n ∷ []) []) ≤ suc n
       at true h = omega (arith, length-append (changedBelow old new n) (n ∷ []))
       at false h = omega (arith, length-append (changedBelow old new n) [])
 
 module _ (old new : Rows) where
-  one-more : (n : ℕ) (b : Bool) → differs old new n ≡ b → changedBelow old new (n + 1) ≡ changedBelow old new n ++ pick b (n ∷ []) []
+  one-more : (n : ℕ) (b : Bool) → differs old new n ≡ b → changedBelow old new (n + 1) ≡ changedBelow old new n ++ cond b (n ∷ []) []
   unfolding changedBelow
-  one-more n b e = ap (changedBelow old new) (add-one n) ∙ ap (λ (c : Bool). changedBelow old new n ++ pick c (n ∷ []) []) e
+  one-more n b e = ap (changedBelow old new) (add-one n) ∙ ap (λ (c : Bool). changedBelow old new n ++ cond c (n ∷ []) []) e
 
-pub listed-none : {old new : Tree} (list : List ℕ) → Listed old new 0 list list 0
+pub listed-none : {old new : Arrays} (list : List ℕ) → ListedBelow old new 0 list list 0
 unfolding changedBelow
 listed-none list = record { front = refl; counted = refl }
 
-pub listed-end : {old new : Tree} {n m count : ℕ} {list listed : List ℕ} → n ≡ m → Listed old new n list listed count → Listed old new m list listed count
-listed-end {old} {new} {count = count} {list = list} {listed = listed} e h = subst (λ (n : ℕ). Listed old new n list listed count) e h
+pub listed-end : {old new : Arrays} {n m count : ℕ} {list listed : List ℕ} → n ≡ m → ListedBelow old new n list listed count → ListedBelow old new m list listed count
+listed-end {old} {new} {count = count} {list = list} {listed = listed} e h = subst (λ (n : ℕ). ListedBelow old new n list listed count) e h
 
-module _ {old new : Tree} {n count : ℕ} {list listed : List ℕ} (h : Listed old new n list listed count) where
+module _ {old new : Arrays} {n count : ℕ} {list listed : List ℕ} (h : ListedBelow old new n list listed count) where
   before : List ℕ
   before = changedBelow (rowsOf old) (rowsOf new) n
 
   pub count-few : count ≤ n
   count-few = omega (arith, h .counted, few (rowsOf old) (rowsOf new) n)
 
-  pub listed-more : differs (rowsOf old) (rowsOf new) n ≡ true → count < length list → Listed old new (n + 1) list (set listed count n) (count + 1)
+  pub listed-more : differs (rowsOf old) (rowsOf new) n ≡ true → count < length list → ListedBelow old new (n + 1) list (set listed count n) (count + 1)
   unfolding before
   listed-more d l =
       let more = one-more (rowsOf old) (rowsOf new) n true d in
@@ -78,7 +77,7 @@ module _ {old new : Tree} {n count : ℕ} {list listed : List ℕ} (h : Listed o
         counted = ap (λ (c : ℕ). c + 1) (h .counted) ∙ sym (length-append before (n ∷ [])) ∙ ap length (sym more);
       }
 
-  pub listed-same : differs (rowsOf old) (rowsOf new) n ≡ false → Listed old new (n + 1) list listed count
+  pub listed-same : differs (rowsOf old) (rowsOf new) n ≡ false → ListedBelow old new (n + 1) list listed count
   unfolding before
   listed-same d =
       let same = one-more (rowsOf old) (rowsOf new) n false d ∙ append-nil before in

@@ -5,7 +5,7 @@ ghost use Prim.Native.Nat.{_≤_};
 ghost use lib.Dec.{eqb};
 ghost use lib.ListN.{length};
 ghost use Rattle.rules.specs.Columns.{Whole, arrays};
-ghost use Rattle.changed.specs.Listed.{Listed};
+ghost use Rattle.changed.specs.Listed.{ListedBelow};
 
 // A row differs from another in its distance, its parent or its first link.
 fn row_differs(
@@ -39,7 +39,7 @@ pub fn list_changed<'a>(
     list: &mut [u16],
 ) -> usize
     requires { ⌜ Whole (arrays (now dist) (now parent) (now first)) × Whole (arrays (now «new_dist») (now «new_parent») (now «new_first»)) × (nodes ≤ 256) × (nodes ≤ length (now list)) ⌝ }
-    ensures { λ r. ⌜ Listed (arrays (now (dist .entry)) (now (parent .entry)) (now (first .entry))) (arrays (now («new_dist» .entry)) (now («new_parent» .entry)) (now («new_first» .entry))) nodes (now (list .entry)) (now (list .exit)) r ⌝ }
+    ensures { λ r. ⌜ ListedBelow (arrays (now (dist .entry)) (now (parent .entry)) (now (first .entry))) (arrays (now («new_dist» .entry)) (now («new_parent» .entry)) (now («new_first» .entry))) nodes (now (list .entry)) (now (list .exit)) r ⌝ }
 {
     let mut count: usize = 0;
     let mut v: usize = 0;

@@ -1,6 +1,6 @@
 -- The list of changed nodes names exactly those whose row differs, in rising order. Assumes nothing.
 use mathlib.Core.Path.{_≡_, refl, sym, _∙_}
-use mathlib.Core.Bool.{Bool, true, false}
+use mathlib.Core.Bool.{Bool, true, false, cond}
 use mathlib.Core.List.{List, [], _∷_, _++_, append-nil}
 use Prim.Native.Nat.{ℕ, zero, suc, _+_, _≤_, _<_}
 use native.Mathlib.Omega.{arith}
@@ -10,9 +10,8 @@ use lib.ListN.{length, getD, length-append, List·getD-append}
 use lib.Seq.{getD-append-seam}
 use borrow.Author.Tests.{eq-eqb}
 use Rattle.rules.specs.Net.{Net, Legal}
-use Rattle.rules.specs.Tree.{Rows, Bare, Row, root, hung, bare, Fits}
-use Rattle.rules.specs.Tests.{pick}
-use Rattle.rules.specs.Columns.{Table, Tree, Whole, rowsOf}
+use Rattle.rules.specs.Fit.{Rows, Bare, Row, root, hung, bare, Fits}
+use Rattle.rules.specs.Columns.{Table, Arrays, Whole, rowsOf}
 use Rattle.rules.specs.Refusals.{accepted}
 use Rattle.rules.specs.Jobs.{differs, changedBelow, Updated}
 use Rattle.rules.specs.Demands.{Names}
@@ -30,7 +29,7 @@ record NamesBelow (old new : Rows) (n : ℕ) (changed : List ℕ) : Type 0 where
 
 module _ (old new : Rows) where
   one-more : {n : ℕ} {changed : List ℕ} (b : Bool) → differs old new n ≡ b → NamesBelow old new n changed
-      → NamesBelow old new (suc n) (changed ++ pick b (n ∷ []) [])
+      → NamesBelow old new (suc n) (changed ++ cond b (n ∷ []) [])
   one-more {n} {changed} true e h = record { named = λ v l d. name v l d (ℕ-discrete v n); only = λ i l. own i l (decLt i (length changed)); rising = λ i j l m. up i j l m (decLt j (length changed)) }
     where
       long : length (changed ++ (n ∷ [])) ≡ length changed + 1
@@ -83,7 +82,7 @@ module _ {N M : Net} (L : Legal N) (K : Legal M) {r s : Rows} (R : Fits N r) (S 
       let b = bare-past K (omega arith) (S .row v) in
       rw (eq-eqb (r .dist v) (s .dist v) (cc), eq-eqb (r .parent v) (s .parent v) (cc), eq-eqb (r .first v) (s .first v) (cc)) refl
 
-pub changed-named : {t : Table} {old new : Tree} {batch : List Change} {list costs listed : List ℕ} {count : ℕ} → Whole old
+pub changed-named : {t : Table} {old new : Arrays} {batch : List Change} {list costs listed : List ℕ} {count : ℕ} → Whole old
     → Updated t old batch list accepted new costs listed count → Names (rowsOf old) (rowsOf new) (changedBelow (rowsOf old) (rowsOf new) (t .nodes))
 changed-named {t} {old} {new} {batch} {list} w u =
     let a = update-accept u refl in

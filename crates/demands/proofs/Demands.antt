@@ -2,10 +2,10 @@
 use mathlib.Core.Path.{refl}
 use mathlib.Core.List.{List}
 use Prim.Native.Nat.{ℕ}
-use Rattle.rules.specs.Columns.{Table, Tree, Whole, netOf, rowsOf, after}
+use Rattle.rules.specs.Columns.{Table, Arrays, Whole, netOf, rowsOf, after}
 use Rattle.rules.specs.Refusals.{accepted}
 use Rattle.rules.specs.Jobs.{Updated}
-use Rattle.rules.specs.Demands.{Stands, first, later, Narrow, LeastSums, ListsChanged, Stable}
+use Rattle.rules.specs.Demands.{Stands, first, later, SixteenBit, LeastSums, ListsChanged, Stable}
 use Rattle.rules.specs.declared.Change.{Change}
 use Rattle.rules.proofs.Judged.{legal}
 use Rattle.rules.proofs.Accepted.{Good, built-good, update-accept, update-good}
@@ -13,16 +13,16 @@ use Rattle.demands.proofs.Fits.{fits-tells}
 use Rattle.demands.proofs.Changed.{changed-named}
 use Rattle.demands.proofs.Kept.{keeps-each, keeps-most}
 
-pub stands-good : {t : Table} {tree : Tree} → Stands t tree → Good t tree
+pub stands-good : {t : Table} {tree : Arrays} → Stands t tree → Good t tree
 stands-good (first b) = built-good b refl
 stands-good (later s u) = update-good (update-accept u refl)
 
 -- ---- demand 2
 
-pub demand-2 : {t : Table} {tree : Tree} → Stands t tree → Narrow (t .costs) → LeastSums t tree
+pub demand-2 : {t : Table} {tree : Arrays} → Stands t tree → SixteenBit (t .costs) → LeastSums t tree
 demand-2 s c = let g = stands-good s in fits-tells (g .table) c (g .fits) .sums
 
-pub demand-2-list : {t : Table} {old new : Tree} {batch : List Change} {list costs listed : List ℕ} {count : ℕ} → Whole old
+pub demand-2-list : {t : Table} {old new : Arrays} {batch : List Change} {list costs listed : List ℕ} {count : ℕ} → Whole old
     → Updated t old batch list accepted new costs listed count → ListsChanged (rowsOf old) (rowsOf new) list listed count
 demand-2-list w u =
     let a = update-accept u refl in
@@ -30,7 +30,7 @@ demand-2-list w u =
 
 -- ---- demand 3
 
-pub demand-3 : {t : Table} {old new : Tree} {batch : List Change} {list costs listed : List ℕ} {count : ℕ}
+pub demand-3 : {t : Table} {old new : Arrays} {batch : List Change} {list costs listed : List ℕ} {count : ℕ}
     → Updated t old batch list accepted new costs listed count → Stable (netOf (after t batch)) (rowsOf old .parent) (rowsOf new)
 demand-3 u =
     let a = update-accept u refl in

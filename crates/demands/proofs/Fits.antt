@@ -8,10 +8,10 @@ use Prim.Native.Nat.{ℕ}
 use native.Mathlib.Omega.{arith}
 use native.Mathlib.Decide.{ℕ-discrete}
 use Rattle.rules.specs.Net.{Net, Walk, at-root, Least}
-use Rattle.rules.specs.Tree.{Rows, total, Reached, Tight, Fits, Path, by-parent}
-use Rattle.rules.specs.Columns.{Table, Proper, Tree, netOf, rowsOf, unreached}
+use Rattle.rules.specs.Fit.{Rows, total, Reached, Tight, Fits, Path, by-parent}
+use Rattle.rules.specs.Columns.{Table, Proper, Arrays, netOf, rowsOf, unreached}
 use Rattle.rules.specs.Refusals.{accepted, judgeLinks}
-use Rattle.rules.specs.Demands.{Narrow, TellsRoutes}
+use Rattle.rules.specs.Demands.{SixteenBit, TellsRoutes}
 use Rattle.rules.proofs.Sound.{fits-shortest, shortest-fits, total-last, path-walk, walk-node, least-before}
 use Rattle.rules.proofs.Room.{dist-bound, walk-reached}
 use Rattle.rules.proofs.Judged.{links-proper, legal, roomy}
@@ -36,7 +36,7 @@ module _ (N : Net) (r : Rows) (least : (v : ℕ) → Reached N r v → Least N v
       at (yes e) = e
       at (no s) = absurd (n (r .dist v) (least v s .walk))
 
-module _ {t : Table} {tree : Tree} (a : Proper t) (c : Narrow (t .costs)) where
+module _ {t : Table} {tree : Arrays} (a : Proper t) (c : SixteenBit (t .costs)) where
   pub fits-tells : Fits (netOf t) (rowsOf tree) → TellsRoutes t tree
   fits-tells f =
       let short = fits-shortest (legal a) f in
@@ -71,6 +71,6 @@ module _ {t : Table} {tree : Tree} (a : Proper t) (c : Narrow (t .costs)) where
       hangs v h = let way = s .sums .routed v h in hangs-by (netOf t) (rowsOf tree) (s .sums .least) (s .sums .no-path) (way .path) h (way .sum)
 
 -- both at once, of a table that judging accepts
-pub fits-exactly : {t : Table} {tree : Tree} → judgeLinks t ≡ accepted → Narrow (t .costs)
+pub fits-exactly : {t : Table} {tree : Arrays} → judgeLinks t ≡ accepted → SixteenBit (t .costs)
     → (Fits (netOf t) (rowsOf tree) → TellsRoutes t tree) × (TellsRoutes t tree → Fits (netOf t) (rowsOf tree))
 fits-exactly {t} e c = let a = links-proper t e in (fits-tells a c, tells-fits a c)

@@ -6,7 +6,7 @@ use mathlib.Core.Bool.{not}
 use Prim.Native.Nat.{ℕ, _≤_, _<_}
 use lib.Dec.{T, eqb, eqb→eq}
 use Rattle.rules.specs.Net.{Net, Legal}
-use Rattle.rules.specs.Tree.{Rows, Tight, Fits}
+use Rattle.rules.specs.Fit.{Rows, Tight, Fits}
 use Rattle.rules.specs.Keep.{Choice, keeps, takes, Next, kept, keptCount}
 use Rattle.rules.proofs.Logic.{and, and-l, and-r, eq→eqb, neqb→ne, count-le}
 use Rattle.rules.proofs.Unique.{same-tight, Kinds, roots, hungs, bares, kinds}

@@ -1,6 +1,6 @@
 -- Once the links so far are an accepted table, one more is judged by itself and the start before it. Assumes nothing.
 use mathlib.Core.Path.{_≡_, refl, sym, _∙_}
-use mathlib.Core.Bool.{Bool, true, false}
+use mathlib.Core.Bool.{Bool, true, false, cond}
 use mathlib.Core.List.{List, [], _∷_, _++_}
 use Prim.Native.Nat.{ℕ, _+_, _-_, _≤_, _<_}
 use native.Mathlib.Omega.{arith}
@@ -10,7 +10,6 @@ use lib.ListN.{length, getD, length-append, List·getD-append, List·getD-eq-def
 use lib.Seq.{getD-append-seam}
 use borrow.Author.Count.{below-more}
 use borrow.Author.Tests.{lt-ltb, le-ltb, eq-eqb, eqb-true}
-use Rattle.rules.specs.Tests.{pick}
 use Rattle.rules.specs.Columns.{Table, table, mostLinks}
 use Rattle.rules.specs.Refusals.{Verdict, accepted, refused, _then_, when, whenOne, wrongNodeCount, wrongRoot, wrongColumns, wrongEnds, wrongEndsAt, wrongOrderAt, judgeEach, judgeLinks}
 use Rattle.rules.specs.declared.Answer.the-variants.{Accepted, WrongColumns, WrongEnds, WrongOrder}
@@ -43,7 +42,7 @@ module _ (t : Table) (fine : judgeLinks t ≡ accepted) where
 -- ---- a search whose last place is the only one that may pass
 
 only-last : (test : ℕ → Bool) (p number : ℕ) (last : Bool) → ((j : ℕ) → j < p → test j ≡ false) → test p ≡ last
-    → whenOne (p + 1) test number ≡ pick last (refused number p) accepted
+    → whenOne (p + 1) test number ≡ cond last (refused number p) accepted
 only-last test p number true before e =
     let here : First test (p + 1) p = record { within = omega arith; before = before; passes = λ l. e } in
     rw (first-is here, lt-ltb p (p + 1) (omega arith)) refl
@@ -103,7 +102,7 @@ module _ (nodes root : ℕ) (starts ends costs : List ℕ) (start end cost : ℕ
   full l = columns-decide more (count-right so-far fine) (root-right so-far fine) (columns-wrong (lt-ltb mostLinks (length starts + 1) (omega arith)))
 
   module _ (room : length starts < mostLinks) {ends-wrong order-wrong : Bool} (e : wrongEnds nodes start end ≡ ends-wrong) (o : ltb start (getD starts (length starts - 1) 0) ≡ order-wrong) where
-    pub last-decides : pick ends-wrong (refused 4 (length starts)) accepted then pick order-wrong (refused 5 (length starts)) accepted ≡ judgeLinks more
+    pub last-decides : cond ends-wrong (refused 4 (length starts)) accepted then cond order-wrong (refused 5 (length starts)) accepted ≡ judgeLinks more
     last-decides =
         sym (rw (
           one-longer starts start refl,

@@ -1,6 +1,6 @@
 -- Once the rows so far are accepted, one more is judged by itself and the links that they name. Assumes nothing.
 use mathlib.Core.Path.{_≡_, refl, sym, ap, _∙_}
-use mathlib.Core.Bool.{Bool, true, false, _||_}
+use mathlib.Core.Bool.{Bool, true, false, _||_, cond}
 use mathlib.Core.List.{List, [], _∷_, _++_}
 use Prim.Native.Nat.{ℕ, _+_, _≤_, _<_}
 use native.Mathlib.Omega.{arith}
@@ -9,7 +9,7 @@ use lib.ListN.{length, getD, length-append, List·getD-append}
 use lib.Seq.{getD-append-seam}
 use borrow.Author.Count.{below-more}
 use borrow.Author.Tests.{lt-ltb, le-ltb, ltb-false, le-leb, lt-leb}
-use Rattle.rules.specs.Tests.{pick, firstBelow}
+use Rattle.rules.specs.Tests.{firstBelow}
 use Rattle.rules.specs.Columns.{Table, mostRows}
 use Rattle.rules.specs.Refusals.{Verdict, accepted, refused, linkAt, namesNoLink, namesAgain, firstBadRow, judgeRows}
 use Rattle.rules.specs.declared.Change.{Change}
@@ -88,11 +88,11 @@ module _ (t : Table) (changed newcosts : List ℕ) (link cost : ℕ) (long : len
     unfolding bad
     last-bad = rw (no-link-last ∙ n, again-last ∙ a) refl
 
-    pub last-decides : (length changed < mostRows) → pick (no-link || again) (refused (pick no-link 8 9) (length changed)) accepted ≡ judgeWaiting t more
+    pub last-decides : (length changed < mostRows) → cond (no-link || again) (refused (cond no-link 8 9) (length changed)) accepted ≡ judgeWaiting t more
     unfolding judgeRows bad firstBadRow
     last-decides few = at (no-link || again) refl
       where
-        at : (b : Bool) → (no-link || again) ≡ b → pick b (refused (pick no-link 8 9) (length changed)) accepted ≡ judgeWaiting t more
+        at : (b : Bool) → (no-link || again) ≡ b → cond b (refused (cond no-link 8 9) (length changed)) accepted ≡ judgeWaiting t more
         at true e =
             let here : First (bad t more) (length changed + 1) (length changed) = record { within = omega arith; before = good-before; passes = λ l. last-bad ∙ e } in
             rw (more-long, le-ltb mostRows (length changed + 1) (omega arith), first-is here, lt-ltb (length changed) (length changed + 1) (omega arith), no-link-last ∙ n) refl

@@ -8,7 +8,7 @@ use native.Mathlib.Decide.{decLe, ℕ-discrete}
 use lib.Dec.{T, not-T, eqb, ltb, leb, leb→le, le→leb}
 use borrow.Author.Tests.{eq-eqb, ne-eqb}
 use Rattle.rules.specs.Net.{Net}
-use Rattle.rules.specs.Tree.{Rows}
+use Rattle.rules.specs.Fit.{Rows}
 use Rattle.rules.specs.Tests.{all, usable, reached, tight, offers, sumBy, firstBy, rootRow, hungRow, bareRow, breaks}
 use Rattle.rules.proofs.Logic.{or-l, or-r, T-true, T-false, all-at, all-is}
 use Rattle.alone.specs.Alone.{hungBy, hungAlone, rowAlone}

@@ -1,15 +1,15 @@
 -- The smaller of what the two passes find is the smallest node that breaks a rule. Assumes nothing.
 use mathlib.Core.Path.{_≡_, refl, sym, subst, _∙_}
 use mathlib.Core.Logic.{_⊎_, inl, inr}
-use mathlib.Core.Bool.{Bool, true, false, _&&_, and-true, and-false, or-true}
+use mathlib.Core.Bool.{Bool, true, false, _&&_, and-true, and-false, or-true, cond}
 use Prim.Native.Nat.{ℕ, _≤_, _<_}
 use native.Mathlib.Omega.{arith}
 use lib.Dec.{T, eqb, ltb, eqb→eq, ltb→lt}
 use borrow.Author.Tests.{eq-eqb, lt-ltb}
 use Rattle.rules.specs.Net.{Net}
-use Rattle.rules.specs.Tree.{Rows}
-use Rattle.rules.specs.Tests.{pick, usable, reached, offers, sumBy, breaks}
-use Rattle.rules.specs.Columns.{Table, Tree, narrow, netIn, rowsIn, mostNodes}
+use Rattle.rules.specs.Fit.{Rows}
+use Rattle.rules.specs.Tests.{usable, reached, offers, sumBy, breaks}
+use Rattle.rules.specs.Columns.{Table, Arrays, narrow, netIn, rowsIn, mostNodes}
 use Rattle.rules.specs.Refusals.{Verdict, accepted, refused, judgeLinks, judgeTree, judgeTreeIn}
 use Rattle.rules.specs.declared.Profile.{Profile}
 use Rattle.rules.proofs.Logic.{First, first-is, and-l, and-r, or-cases, true-T, T-true}
@@ -91,18 +91,18 @@ module _ (N : Net) (r : Rows) where
 
 -- ---- the verdict
 
-pub tree-decides : (p : Profile) (t : Table) (tree : Tree) {v : ℕ} → judgeLinks t ≡ accepted
+pub tree-decides : (p : Profile) (t : Table) (tree : Arrays) {v : ℕ} → judgeLinks t ≡ accepted
     → First (breaks (netIn p t) (rowsIn p tree)) mostNodes v
-    → pick (ltb v mostNodes) (refused 6 v) accepted ≡ judgeTreeIn p t tree
+    → cond (ltb v mostNodes) (refused 6 v) accepted ≡ judgeTreeIn p t tree
 tree-decides p t tree right f = rw (right, first-is f)
 
-pub links-decide : (t : Table) (tree : Tree) (verdict : Verdict) → (verdict ≡ accepted → ⊥)
+pub links-decide : (t : Table) (tree : Arrays) (verdict : Verdict) → (verdict ≡ accepted → ⊥)
     → verdict ≡ judgeLinks t → verdict ≡ judgeTree t tree
 unfolding judgeTree
 links-decide t tree accepted refuses is = absurd (refuses refl)
 links-decide t tree (refused number value) refuses is = rw (← is)
 
-pub narrow-decides : (p : Profile) (t : Table) (tree : Tree) (verdict : Verdict) → p ≡ narrow → verdict ≡ judgeTreeIn p t tree
+pub narrow-decides : (p : Profile) (t : Table) (tree : Arrays) (verdict : Verdict) → p ≡ narrow → verdict ≡ judgeTreeIn p t tree
     → verdict ≡ judgeTree t tree
 unfolding judgeTree
 narrow-decides p t tree verdict e is = rw e at is

@@ -1,9 +1,9 @@
 // Judging a tree: refusals 1 to 6. The smallest node that breaks a rule is the smaller of two, each found by one pass: the
 // smallest that a link offers less than it has, and the smallest whose row is wrong by itself.
+ghost use mathlib.Core.Bool.{cond};
 ghost use mathlib.Core.Path.{_≡_};
 ghost use Prim.Native.Nat.{_<_};
 ghost use lib.Dec.{ltb};
-ghost use Rattle.rules.specs.Tests.{pick};
 ghost use Rattle.rules.specs.Columns.{arrays, Whole, mostNodes};
 ghost use Rattle.rules.specs.Lent.{lentTable, lentTree};
 ghost use Rattle.rules.specs.Refusals.{accepted, refused, judgeLinks, judgeTree, judgeTreeIn};
@@ -16,7 +16,7 @@ const NODES: usize = 256;
 
 // What is answered where `node` is the smallest node that breaks a rule, or 256.
 fn answer(node: usize) -> Answer
-    ensures { λ r. ⌜ told r ≡ pick (ltb node mostNodes) (refused 6 node) accepted ⌝ }
+    ensures { λ r. ⌜ told r ≡ cond (ltb node mostNodes) (refused 6 node) accepted ⌝ }
 {
     if node < NODES {
         return Answer::TreeUnfit(node as u16);

@@ -8,9 +8,9 @@ use native.Mathlib.Omega.{arith}
 use native.Mathlib.Decide.{ℕ-discrete, decLt}
 use lib.ListN.{length, getD, replicate}
 use Rattle.rules.specs.Net.{Usable}
-use Rattle.rules.specs.Tree.{Tight, Row, root, hung, bare}
+use Rattle.rules.specs.Fit.{Tight, Row, root, hung, bare}
 use Rattle.rules.specs.Keep.{Smallest}
-use Rattle.rules.specs.Columns.{Table, Tree, Proper, Whole, table, arrays, netOf, rowsOf, mostNodes, unreached, noLink}
+use Rattle.rules.specs.Columns.{Table, Arrays, Proper, Whole, table, arrays, netOf, rowsOf, mostNodes, unreached, noLink}
 use Rattle.rules.proofs.Logic.{true-false}
 use Rattle.rules.proofs.Judged.{legal}
 use Rattle.queue.specs.Queue.{empty}
@@ -18,25 +18,25 @@ use Rattle.hang.specs.Passes.{Tightly, FirstBy, Standing}
 use Rattle.hang.proofs.Parents.{filled}
 use Rattle.hang.proofs.Distances.{root-not-tight, mark-not-tight, next-fresh}
 use Rattle.hang.proofs.Firsts.{standing-firsts}
-use Rattle.hang.proofs.Whole.{Ready as Hangable, Hanged, Smallest as Best, finds, lacks, AllSmallest, AllPicked, on-old, on-none, Picked, leaving, picked-rising, hanged, tight-by-rules, tight-by-columns}
+use Rattle.hang.proofs.Whole.{Liftable as Hangable, Hanged, Smallest as Best, finds, lacks, AllSmallest, AllPicked, on-old, on-none, Picked, leaving, picked-rising, hanged, tight-by-rules, tight-by-columns}
 use Rattle.settle.specs.Afoot.{Every, Untouched, distAt, keyAt, Lined, Calm, Partly, Settled, Fallen, same, lower, Fell, Firsts}
 use Rattle.settle.specs.Finding.{foundAt, Moved, Carries, Finding, Found, Alone, hungBy, GoesOn, Heard, CalmOr, Comes}
 use Rattle.settle.proofs.Offers.{waits-now, fell-then, partly-fewer}
 use Rattle.settle.proofs.Finds.{finding-none, carries-still, carries-tight, on-fewer, on-then}
 use Rattle.settle.proofs.Rounds.{lined-none}
 use Rattle.lift.specs.Loose as loose
-use Rattle.lift.specs.Loose.{parentAt, Rooted, Parents, Standing as Stands, StandApart, Ready, Lifted, Fate, stays, goes, Fates, LiftedRows, none, some}
+use Rattle.lift.specs.Loose.{parentAt, Rooted, Parents, Standing as Stands, StandApart, Liftable, Lifted, Fate, stays, goes, Fates, LiftedRows, none, some}
 use Rattle.grow.specs.Grown.{Grown, Old, withCosts, Fitted, Regrown, AllCarried, Seeded, Reseeded, still, moves}
 
 -- ---- an old tree and an empty queue
 
-pub ready : {t : Table} {tree : Tree} → Old t tree → Ready t (tree .dist) (replicate 256 empty) (replicate 72 empty)
+pub ready : {t : Table} {tree : Arrays} → Old t tree → Liftable t (tree .dist) (replicate 256 empty) (replicate 72 empty)
 ready o = record { lined = lined-none (o .whole .dist) (o .most); root-zero = o .root-zero; none-waits = filled 256 empty }
 
-pub rooted : {t : Table} {tree : Tree} → Old t tree → Rooted t (tree .parent)
+pub rooted : {t : Table} {tree : Arrays} → Old t tree → Rooted t (tree .parent)
 rooted o = record { long = o .whole .parent; no-parent = o .root-parent }
 
-module _ {t : Table} (proper : Proper t) {rows : List ℕ} {tree : Tree} (f : Fitted t rows tree) where
+module _ {t : Table} (proper : Proper t) {rows : List ℕ} {tree : Arrays} (f : Fitted t rows tree) where
   pub parents : Parents t (tree .parent)
   parents = record { rooted = rooted (f .old); ends-at = λ v has. at has (f .fits .row v) }
     where
@@ -131,7 +131,7 @@ pub seeded : {t : Table} {parent dist keys dist' keys' mins' found' : List ℕ} 
 seeded {dist = dist} c p g = record { stood = dist; carried = c; afoot = p; finding = g .on dist (finding-none (filled 256 noLink)); found-long = g .long }
 
 -- after a batch: the links into lifted nodes are offered, then those of the rows
-pub seeded-rows : {t : Table} {rows : List ℕ} {tree : Tree} {at dist keys mins first dist' keys' mins' found' dist'' keys'' mins'' found'' : List ℕ} {lifted : Bool}
+pub seeded-rows : {t : Table} {rows : List ℕ} {tree : Arrays} {at dist keys mins first dist' keys' mins' found' dist'' keys'' mins'' found'' : List ℕ} {lifted : Bool}
     → Proper t → Fitted t rows tree → Lifted t (tree .parent) dist keys mins → LiftedRows (t .starts) (tree .dist) (tree .first) at dist first lifted
     → Heard t (Calm t dist keys) dist keys (replicate 256 noLink) (CalmOr t dist keys lifted first) dist' keys' mins' found'
     → Heard t (Untouched rows 0) dist' keys' found' Every dist'' keys'' mins'' found'' → Seeded t (tree .parent) dist'' keys'' mins'' found''
@@ -210,7 +210,7 @@ grown p s h = record {
 }
 
 -- the old tree is the next one where its parents carry still and nothing has fallen
-module _ {t : Table} (proper : Proper t) {rows : List ℕ} {tree : Tree} (f : Fitted t rows tree) {dist keys mins : List ℕ} (s : Settled t dist keys mins)
+module _ {t : Table} (proper : Proper t) {rows : List ℕ} {tree : Arrays} (f : Fitted t rows tree) {dist keys mins : List ℕ} (s : Settled t dist keys mins)
     (c : AllCarried t (tree .parent) (tree .dist)) (equal : (v : ℕ) → distAt dist v ≡ distAt (tree .dist) v) where
   keeps-parents : AllPicked t dist (tree .parent) (tree .parent)
   keeps-parents = record { long = f .old .whole .parent; each = λ v. at v (f .fits .row v) }
@@ -252,7 +252,7 @@ pub has-to-run : {t : Table} {parent dist first at dist' first' keys' mins' : Li
 has-to-run (still s c e f) q = absurd (true-false q)
 has-to-run (moves firsts long) q = (firsts, long)
 
-pub regrown-stopped : {t : Table} {rows : List ℕ} {tree : Tree} {at dist first keys mins : List ℕ} {runs : Bool} → Proper t → Fitted t rows tree
+pub regrown-stopped : {t : Table} {rows : List ℕ} {tree : Arrays} {at dist first keys mins : List ℕ} {runs : Bool} → Proper t → Fitted t rows tree
     → Reseeded t (tree .parent) (tree .dist) (tree .first) at dist first keys mins runs → not runs ≡ true → Regrown t (tree .parent) (arrays dist (tree .parent) first)
 regrown-stopped p f (still s c e g) q = rw g (regrown-still p f s c e)
 regrown-stopped p f (moves firsts long) q = absurd (true-false (sym q))

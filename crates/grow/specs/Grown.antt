@@ -5,19 +5,19 @@ use mathlib.Core.Bool.{Bool, true, false}
 use mathlib.Core.List.{List}
 use Prim.Native.Nat.{ℕ, _≤_, _<_}
 use lib.ListN.{length, getD}
-use Rattle.rules.specs.Tree.{Fits}
+use Rattle.rules.specs.Fit.{Fits}
 use Rattle.rules.specs.Keep.{Fresh, Next}
-use Rattle.rules.specs.Columns.{Table, Tree, Whole, table, netOf, rowsOf, mostNodes, unreached, noLink}
+use Rattle.rules.specs.Columns.{Table, Arrays, Whole, table, netOf, rowsOf, mostNodes, unreached, noLink}
 use Rattle.settle.specs.Afoot.{Every, Untouched, Rows, distAt, Afoot, Settled, Firsts}
 use Rattle.settle.specs.Finding.{Carries, Finding}
 use Rattle.lift.specs.Loose.{parentAt}
 
-pub record Grown (t : Table) (tree : Tree) : Type 0 where
+pub record Grown (t : Table) (tree : Arrays) : Type 0 where
   pub whole : Whole tree
   pub fresh : Fresh (netOf t) (rowsOf tree)
 
 -- any tree with no distance above the mark, in which the root has distance 0 and no parent
-pub record Old (t : Table) (tree : Tree) : Type 0 where
+pub record Old (t : Table) (tree : Arrays) : Type 0 where
   pub whole : Whole tree
   pub most : (v : ℕ) → rowsOf tree .dist v ≤ unreached
   pub root-zero : rowsOf tree .dist (t .root) ≡ 0
@@ -28,14 +28,14 @@ abbrev pub withCosts : Table → List ℕ → Table
 withCosts t costs = table (t .nodes) (t .root) (t .starts) (t .ends) costs
 
 -- the rows name links of the table, and the tree fitted while those that they touch had other costs
-pub record Fitted (t : Table) (rows : List ℕ) (tree : Tree) : Type 0 where
+pub record Fitted (t : Table) (rows : List ℕ) (tree : Arrays) : Type 0 where
   pub old : Old t tree
   pub named : Rows (length (t .starts)) rows
   pub costs : List ℕ
   pub same : (k : ℕ) → Untouched rows 0 k → getD costs k 0 ≡ getD (t .costs) k 0
   pub fits : Fits (netOf (withCosts t costs)) (rowsOf tree)
 
-pub record Regrown (t : Table) (old : List ℕ) (tree : Tree) : Type 0 where
+pub record Regrown (t : Table) (old : List ℕ) (tree : Arrays) : Type 0 where
   pub whole : Whole tree
   pub next : Next (netOf t) (rowsOf tree) (λ v. getD old v noLink)
 

@@ -8,8 +8,7 @@ ghost use Rattle.rules.specs.Columns.{Proper, table, arrays, Whole, mostNodes, 
 ghost use Rattle.queue.specs.Queue.{empty};
 ghost use Rattle.settle.specs.Afoot.{Firsts};
 ghost use Rattle.grow.specs.Grown.{Grown, Old, Fitted, Regrown, Seeded, Reseeded};
-
-const UNREACHED: u32 = 16_777_215;
+use rules::UNREACHED;
 
 const NO_LINK: u16 = 65_535;
 

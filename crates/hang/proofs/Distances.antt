@@ -4,9 +4,9 @@ use mathlib.Core.Logic.{_≢_}
 use Prim.Native.Nat.{ℕ, _+_, _≤_, _<_}
 use native.Mathlib.Omega.{arith}
 use Rattle.rules.specs.Net.{Net, Legal, Walk, at-root, along}
-use Rattle.rules.specs.Tree.{Rows, Reached, Tight, Offer}
+use Rattle.rules.specs.Fit.{Rows, Reached, Tight, Offer}
 use Rattle.rules.specs.Keep.{Choice, keeps, takes, Smallest, Fresh, Next}
-use Rattle.rules.specs.Sums.{Sums}
+use Rattle.hang.specs.Sums.{Sums}
 
 module _ {N : Net} (L : Legal N) (r : Rows) (S : Sums N (r .dist)) where
   pub root-reached : Reached N r (N .root)

@@ -8,9 +8,9 @@ use native.Mathlib.Omega.{arith}
 use native.Mathlib.Decide.{ℕ-discrete}
 use lib.ListN.{length, getD, replicate}
 use Rattle.rules.specs.Net.{Net}
-use Rattle.rules.specs.Tree.{Rows, Tight, Hung, Row, root, hung, bare}
+use Rattle.rules.specs.Fit.{Rows, Tight, Hung, Row, root, hung, bare}
 use Rattle.rules.specs.Keep.{Choice, Next}
-use Rattle.rules.specs.Sums.{Sums}
+use Rattle.hang.specs.Sums.{Sums}
 use Rattle.rules.specs.Columns.{Table, Proper, netOf, rowsOf, arrays, mostNodes, unreached, noLink}
 use Rattle.rules.proofs.Judged.{legal}
 use Rattle.hang.specs.Passes.{Given, Tightly, Kept, keeps, takes, AllKept, Has, Leaving, Rising, FirstOf, Firsts}

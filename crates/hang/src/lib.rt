@@ -8,7 +8,7 @@ ghost use Rattle.hang.specs.Passes.{Tells, Given, Exact, Tightly, Kept, 
 
 const NODES: usize = 256;
 
-const UNREACHED: u32 = 16_777_215;
+use rules::UNREACHED;
 
 const NO_LINK: u16 = 65_535;
 

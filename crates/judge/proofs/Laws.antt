@@ -7,7 +7,7 @@ use lib.Dec.{eqb}
 use lib.ListN.{length}
 use borrow.Author.Tests.{lt-ltb, le-ltb, le-leb, lt-leb}
 use Rattle.rules.specs.Tests.{reached}
-use Rattle.rules.specs.Columns.{Table, Tree, rowsOf, unreached}
+use Rattle.rules.specs.Columns.{Table, Arrays, rowsOf, unreached}
 use Rattle.rules.specs.Refusals.{Verdict, accepted, refused, when, judgeTree, judgeBatch, judgeUpdate, judgeAsked}
 use Rattle.rules.specs.declared.Change.{Change}
 
@@ -24,7 +24,7 @@ refusal (refused number value) n = record { number = number; value = value; is =
 
 -- ---- judging an update
 
-module _ (t : Table) (tree : Tree) (batch : List Change) (list : List ℕ) where
+module _ (t : Table) (tree : Arrays) (batch : List Change) (list : List ℕ) where
   pub tree-refuses : {v : Verdict} → v ≡ judgeTree t tree → (v ≡ accepted → ⊥) → v ≡ judgeUpdate t tree batch list
   unfolding judgeUpdate judgeBatch
   tree-refuses {v} is n =
@@ -49,7 +49,7 @@ module _ (t : Table) (tree : Tree) (batch : List Change) (list : List ℕ) where
 
 -- ---- judging what is asked
 
-module _ (t : Table) (tree : Tree) (node : ℕ) where
+module _ (t : Table) (tree : Arrays) (node : ℕ) where
   pub tree-refuses-asked : {v : Verdict} → v ≡ judgeTree t tree → (v ≡ accepted → ⊥) → v ≡ judgeAsked t tree node
   unfolding judgeAsked
   tree-refuses-asked {v} is n =

@@ -17,7 +17,7 @@ use Rattle.queue.specs.Queue.{empty, keyOf, Rekeyed}
 use Rattle.settle.specs.Afoot.{Untouched, distAt, keyAt, Keyed, idle, waits, Lined, FirstOf}
 use Rattle.lift.specs.Loose as loose
 use Rattle.settle.specs.Finding.{Offers, Carries}
-use Rattle.lift.specs.Loose.{parentAt, Says, Marked, Standing, Rooted, Parents, Loose, Hangs, AllStand, StandBut, StandApart, Ready, Noted}
+use Rattle.lift.specs.Loose.{parentAt, Says, Marked, Standing, Rooted, Parents, Loose, Hangs, AllStand, StandBut, StandApart, Liftable, Noted}
 use Rattle.settle.proofs.Offers.{inside, start-is-node, end-is-node}
 use Rattle.settle.proofs.Rounds.{starts-rise}
 use Rattle.settle.proofs.Heard.{untouched-more, untouched-all}
@@ -136,7 +136,7 @@ loose-fewer {t} {parent} {sure} {sure'} {dist} {keys} f h =
 -- ---- each node after the other
 
 module _ {t : Table} {parent dist keys mins : List ℕ} where
-  pub loose-none : Ready t dist keys mins → Loose t parent (λ v. v < 0) dist keys mins
+  pub loose-none : Liftable t dist keys mins → Loose t parent (λ v. v < 0) dist keys mins
   loose-none h =
       record { lined = h .lined; root-zero = h .root-zero; root-idle = h .none-waits (t .root); standing = λ v l. absurd (not-suc-le-zero l) }
 

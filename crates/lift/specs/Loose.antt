@@ -10,7 +10,7 @@ use lib.ListN.{length, getD}
 use Rattle.rules.specs.Keep.{count}
 use Rattle.rules.specs.Columns.{Table, netOf, mostNodes, unreached, noLink}
 use Rattle.queue.specs.Queue.{empty}
-use Rattle.settle.specs.Afoot.{Untouched, distAt, keyAt, Lined, Begun, Firsts}
+use Rattle.settle.specs.Afoot.{Untouched, distAt, keyAt, Lined, Seeded, Firsts}
 use Rattle.settle.specs.Finding.{Carries}
 
 -- node v's parent link; there is none where there is no such node
@@ -70,14 +70,14 @@ abbrev pub StandApart : Table → List ℕ → List ℕ → ℕ → List ℕ →
 StandApart t parent rows i dist keys mins = Loose t parent (λ v. Untouched rows i (parentAt parent v)) dist keys mins
 
 -- before: any distances up to the mark, the root's 0, and nothing waits
-pub record Ready (t : Table) (dist keys mins : List ℕ) : Type 0 where
+pub record Liftable (t : Table) (dist keys mins : List ℕ) : Type 0 where
   pub lined : Lined dist keys mins
   pub root-zero : distAt dist (t .root) ≡ 0
   pub none-waits : (v : ℕ) → keyAt keys v ≡ empty
 
 -- after: no distance is too small, nothing waits, and each reached node but the root is carried
 pub record Lifted (t : Table) (parent dist keys mins : List ℕ) : Type 0 where
-  pub begun : Begun t dist keys mins
+  pub begun : Seeded t dist keys mins
   pub carried : (v : ℕ) → distAt dist v < unreached → v ≢ t .root → Carries t dist (parentAt parent v) v
   pub none-waits : (v : ℕ) → keyAt keys v ≡ empty
 

@@ -6,10 +6,10 @@ ghost use lib.ListN.{length};
 ghost use Rattle.rules.specs.Columns.{Proper, table, mostNodes, unreached};
 ghost use Rattle.settle.specs.Afoot.{Rows, Lined, FirstOf, Firsts};
 ghost use Rattle.settle.specs.Finding.{Offers, Carries};
-ghost use Rattle.lift.specs.Loose.{Says, Marked, Rooted, Parents, AllStand, StandBut, StandApart, Ready, Lifted, Fates, LiftedRows, Noted};
+ghost use Rattle.lift.specs.Loose.{Says, Marked, Rooted, Parents, AllStand, StandBut, StandApart, Liftable, Lifted, Fates, LiftedRows, Noted};
 
 // The distance of an unreached node.
-const UNREACHED: u32 = 16_777_215;
+use rules::UNREACHED;
 
 const NO_LINK: u16 = 65_535;
 
@@ -75,7 +75,7 @@ fn note_loose(
     keys: &mut [u64; 256],
     mins: &mut [u64; 72],
 )
-    requires { ⌜ Proper (table nodes root (now starts) (now ends) (now costs)) × Rooted (table nodes root (now starts) (now ends) (now costs)) (now parent) × Ready (table nodes root (now starts) (now ends) (now costs)) (now dist) (now keys) (now mins) ⌝ }
+    requires { ⌜ Proper (table nodes root (now starts) (now ends) (now costs)) × Rooted (table nodes root (now starts) (now ends) (now costs)) (now parent) × Liftable (table nodes root (now starts) (now ends) (now costs)) (now dist) (now keys) (now mins) ⌝ }
     ensures { λ _. ⌜ AllStand (table nodes root (now (starts .entry)) (now (ends .entry)) (now (costs .entry))) (now (parent .entry)) (now (dist .entry)) (now (keys .exit)) (now (mins .exit)) ⌝ }
 {
     let mut v: usize = 0;
@@ -208,7 +208,7 @@ pub fn lift(
     keys: &mut [u64; 256],
     mins: &mut [u64; 72],
 )
-    requires { ⌜ Proper (table nodes root (now starts) (now ends) (now costs)) × Firsts (now starts) (now at) × Rooted (table nodes root (now starts) (now ends) (now costs)) (now parent) × Ready (table nodes root (now starts) (now ends) (now costs)) (now dist) (now keys) (now mins) × (length (now first) ≡ mostNodes) ⌝ }
+    requires { ⌜ Proper (table nodes root (now starts) (now ends) (now costs)) × Firsts (now starts) (now at) × Rooted (table nodes root (now starts) (now ends) (now costs)) (now parent) × Liftable (table nodes root (now starts) (now ends) (now costs)) (now dist) (now keys) (now mins) × (length (now first) ≡ mostNodes) ⌝ }
     ensures { λ _. ⌜ Lifted (table nodes root (now (starts .entry)) (now (ends .entry)) (now (costs .entry))) (now (parent .entry)) (now (dist .exit)) (now (keys .exit)) (now (mins .exit)) ⌝ }
 {
     note_loose(nodes, root, starts, ends, costs, parent, dist, keys, mins);

@@ -1,6 +1,6 @@
 -- How long a line can be, and a list's entries put one after another. Assumes nothing.
 use mathlib.Core.Path.{_≡_, refl, sym, ap, _∙_}
-use mathlib.Core.Bool.{Bool, true, false}
+use mathlib.Core.Bool.{Bool, true, false, cond}
 use mathlib.Core.List.{List, [], _∷_, _++_, append-assoc, map}
 use Prim.Native.Nat.{ℕ, zero, suc, _+_, _-_, _*_, _^_, _≤_, _<_, _/_, _%_}
 use native.Mathlib.Omega.{arith}
@@ -11,7 +11,6 @@ use borrow.Author.Tests.{le-leb, lt-leb}
 use lib.Dec.{eqb, leb}
 use lib.ListN.{length, take, drop, getD, length-append}
 use lib.Seq.{drop-cons}
-use Rattle.rules.specs.Tests.{pick}
 use Rattle.rules.specs.Columns.{noLink}
 use Rattle.words.specs.Words.{decimal, digit, dash, space, linkText}
 use Rattle.words.specs.Putting.{Room, Put}
@@ -36,7 +35,7 @@ five n l = few-digits 4 n (omega arith)
 five-link : (link : ℕ) → link < 65536 → length (linkText link) ≤ 5
 five-link link l = at (eqb link noLink)
   where
-    at : (b : Bool) → length (pick b (dash ∷ []) (decimal link)) ≤ 5
+    at : (b : Bool) → length (cond b (dash ∷ []) (decimal link)) ≤ 5
     at true = omega arith
     at false = five link l
 

@@ -1,2 +1,2 @@
--- What 01-scope.md says of the printed lines, as definitions. Their words stand in the crate `words`.
+-- What the scope says of the printed lines, as definitions. Their words stand in the crate `words`.
 pub mod Lines

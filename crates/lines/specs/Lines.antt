@@ -1,4 +1,4 @@
--- What a record tells, as a line of text, as 01-scope.md says it: one space between words. Assumes nothing.
+-- What a record tells, as a line of text, as the scope says it: one space between words. Assumes nothing.
 use Prim.Native.Nat.{ℕ}
 use mathlib.Core.List.{List, [], _∷_, _++_, map}
 use lib.ListN.{take}

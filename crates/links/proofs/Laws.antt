@@ -2,14 +2,13 @@
 -- table's judgment. Assumes nothing.
 use mathlib.Core.Path.{_≡_, refl, sym, _∙_}
 use mathlib.Core.Logic.{_⊎_, inl, inr}
-use mathlib.Core.Bool.{Bool, true, false, _||_}
+use mathlib.Core.Bool.{Bool, true, false, _||_, cond}
 use Prim.Native.Nat.{ℕ, _+_, _-_, _≤_, _<_}
 use native.Mathlib.Omega.{arith}
 use borrow.Author.Tests.{ltb-false, lt-ltb, le-ltb}
 use lib.Dec.{ltb}
 use lib.ListN.{length, getD}
 use Rattle.rules.specs.Columns.{Table}
-use Rattle.rules.specs.Tests.{pick}
 use Rattle.rules.specs.Refusals.{accepted, refused, wrongNodeCount, wrongRoot, wrongColumns, wrongEndsAt, wrongOrderAt, judgeLinks}
 use Rattle.rules.specs.Refusals.{judgeEach}
 use Rattle.rules.proofs.Search.{Seen, seen-none, seen-more, seen-here, one-seen, none-seen}
@@ -67,11 +66,11 @@ module _ {t : Table} {fall previous i : ℕ} (p : Passed t fall previous i) (end
 -- ---- the count of wrong links
 
 -- 1 for a wrong link and 0 for a right one
-fault-few : (wrong : Bool) {fault : ℕ} → fault ≡ pick wrong 1 0 → fault ≤ 1
+fault-few : (wrong : Bool) {fault : ℕ} → fault ≡ cond wrong 1 0 → fault ≤ 1
 fault-few true e = omega arith
 fault-few false e = omega arith
 
-fault-none : (ends order : Bool) {fault : ℕ} → fault ≡ pick (ends || order) 1 0 → fault ≡ 0 → (ends ≡ false) × (order ≡ false)
+fault-none : (ends order : Bool) {fault : ℕ} → fault ≡ cond (ends || order) 1 0 → fault ≡ 0 → (ends ≡ false) × (order ≡ false)
 fault-none true order e none = absurd (omega arith)
 fault-none false true e none = absurd (omega arith)
 fault-none false false e none = (refl, refl)
@@ -87,7 +86,7 @@ counted-none t = record { within = omega arith; few = omega arith; none-wrong = 
 
 module _ {t : Table} {count previous i : ℕ} (p : Counted t count previous i) where
   pub counted-more : i < length (t .starts)
-      → {fault : ℕ} → fault ≡ pick (wrongEndsAt t i || ltb (getD (t .starts) i 0) previous) 1 0
+      → {fault : ℕ} → fault ≡ cond (wrongEndsAt t i || ltb (getD (t .starts) i 0) previous) 1 0
       → Counted t (count + fault) (getD (t .starts) i 0) (i + 1)
   counted-more l e =
       let ends = wrongEndsAt t i in

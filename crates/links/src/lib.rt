@@ -1,6 +1,6 @@
 // Judging a table of links: refusals 1 to 5.
 ghost use mathlib.Core.Path.{_≡_};
-ghost use mathlib.Core.Bool.{_||_};
+ghost use mathlib.Core.Bool.{_||_, cond};
 ghost use mathlib.Core.List.{[]};
 ghost use Prim.Native.Nat.{_≤_};
 ghost use lib.Dec.{ltb};
@@ -8,7 +8,6 @@ ghost use lib.ListN.{length};
 ghost use Rattle.rules.specs.Answers.{told};
 ghost use Rattle.rules.specs.Columns.{mostLinks, table};
 ghost use Rattle.rules.specs.Refusals.{accepted, judgeEach, judgeLinks, wrongEnds};
-ghost use Rattle.rules.specs.Tests.{pick};
 use rules::Answer;
 
 // The start or the end is no node, or the link leads from a node to itself.
@@ -20,7 +19,7 @@ pub fn wrong_ends(nodes: usize, start: u16, end: u16) -> bool
 
 // 1 where a link's ends are wrong or it starts below the one before it, and 0 where it is right.
 fn fault(nodes: u16, start: u16, end: u16, previous: u16) -> u16
-    ensures { λ r. ⌜ r ≡ pick (wrongEnds nodes start end || ltb start previous) 1 0 ⌝ }
+    ensures { λ r. ⌜ r ≡ cond (wrongEnds nodes start end || ltb start previous) 1 0 ⌝ }
 {
     if wrong_ends(nodes as usize, start, end) || start < previous {
         1

@@ -3,7 +3,7 @@
 use mathlib.Core.Path.{_≡_, sym, ap, _∙_}
 use mathlib.Core.List.{List}
 use Prim.Native.Nat.{ℕ}
-use Rattle.rules.specs.Columns.{Table, Tree}
+use Rattle.rules.specs.Columns.{Table, Arrays}
 use Rattle.rules.specs.Refusals.{Verdict}
 use Rattle.rules.specs.Answers.{numberIn, valueIn}
 use Rattle.rules.specs.Jobs.{Built, Updated, Pathed}
@@ -27,11 +27,11 @@ module _ {m n x y : ℕ} where
   judge-once a b = same-told a b (a .outcome ∙ sym (b .outcome))
 
   -- `routes_build`
-  pub build-once : {t : Table} {r s : Tree} → InNumbers (λ v. Built t v r) m x → InNumbers (λ v. Built t v s) n y → SameTold m n x y × (r ≡ s)
+  pub build-once : {t : Table} {r s : Arrays} → InNumbers (λ v. Built t v r) m x → InNumbers (λ v. Built t v s) n y → SameTold m n x y × (r ≡ s)
   build-once a b = let same = built-once (a .outcome) (b .outcome) in (same-told a b (same .verdict), same .tree)
 
   -- `routes_update`
-  pub update-once : {t : Table} {old : Tree} {batch : List Change} {list : List ℕ} {r s : Tree} {c d k l : List ℕ} {i j : ℕ}
+  pub update-once : {t : Table} {old : Arrays} {batch : List Change} {list : List ℕ} {r s : Arrays} {c d k l : List ℕ} {i j : ℕ}
       → InNumbers (λ v. Updated t old batch list v r c k i) m x → InNumbers (λ v. Updated t old batch list v s d l j) n y
       → SameTold m n x y × (r ≡ s) × (c ≡ d) × (k ≡ l) × (i ≡ j)
   update-once a b =
@@ -39,7 +39,7 @@ module _ {m n x y : ℕ} where
       (same-told a b (same .verdict), same .tree, same .costs, same .list, same .count)
 
   -- `routes_path`
-  pub path-once : {t : Table} {tree : Tree} {node : ℕ} {list k l : List ℕ} {i j : ℕ} → InNumbers (λ v. Pathed t tree node list v k i) m x
+  pub path-once : {t : Table} {tree : Arrays} {node : ℕ} {list k l : List ℕ} {i j : ℕ} → InNumbers (λ v. Pathed t tree node list v k i) m x
       → InNumbers (λ v. Pathed t tree node list v l j) n y → SameTold m n x y × (k ≡ l) × (i ≡ j)
   path-once a b =
       let same = pathed-once (a .outcome) (b .outcome) in

@@ -8,7 +8,7 @@ use lib.ListN.{length, getD, set, take, drop}
 use lib.Seq.{getD-set-same, getD-set-other, set-out, getD-take, getD-drop}
 use Rattle.rules.specs.Columns.{applied, mostCost}
 use Rattle.rules.specs.Refusals.{Verdict, accepted, refused}
-use Rattle.rules.specs.Demands.{Narrow}
+use Rattle.rules.specs.Demands.{SixteenBit}
 use Rattle.rules.proofs.Accepted.{update-accept}
 use Rattle.batch.specs.Rows.{rowsOfColumns}
 use Rattle.stream.specs.declared.Item.{Item}
@@ -20,7 +20,7 @@ use Rattle.session.specs.Steps.{linkVerdict, changeVerdict, Applied, Steps, out
 use Rattle.outcomes.specs.Outcomes.{CostFits, CostsFit}
 use Rattle.outcomes.proofs.Led.{narrow-front}
 
-narrow-set : {l : List ℕ} (i x : ℕ) → Narrow l → x ≤ mostCost → Narrow (set l i x)
+narrow-set : {l : List ℕ} (i x : ℕ) → SixteenBit l → x ≤ mostCost → SixteenBit (set l i x)
 narrow-set {l} i x n fits = record { narrow = λ k. at k (ℕ-discrete k i) (decLt i (length l)) }
   where
     at : (k : ℕ) → Dec (k ≡ i) → Dec (i < length l) → getD (set l i x) k 0 ≤ mostCost
@@ -28,11 +28,11 @@ narrow-set {l} i x n fits = record { narrow = λ k. at k (ℕ-discrete k i) (dec
     at k (yes e) (no past) = rw (set-out l i x (omega arith)) (n .narrow k)
     at k (no e) inside = rw (getD-set-other l i k x 0 e) (n .narrow k)
 
-narrow-entered : (v : Verdict) {l : List ℕ} (i x : ℕ) → Narrow l → x ≤ mostCost → Narrow (entered v l i x)
+narrow-entered : (v : Verdict) {l : List ℕ} (i x : ℕ) → SixteenBit l → x ≤ mostCost → SixteenBit (entered v l i x)
 narrow-entered accepted i x n fits = narrow-set i x n fits
 narrow-entered (refused number value) i x n fits = n
 
-narrow-applied : (links prices costs : List ℕ) → Narrow prices → Narrow costs → Narrow (applied (rowsOfColumns links prices) costs)
+narrow-applied : (links prices costs : List ℕ) → SixteenBit prices → SixteenBit costs → SixteenBit (applied (rowsOfColumns links prices) costs)
 unfolding applied rowsOfColumns
 narrow-applied [] prices costs p c = c
 narrow-applied (named ∷ links) [] costs p c = c
@@ -40,7 +40,7 @@ narrow-applied (named ∷ links) (price ∷ prices) costs p c =
     narrow-applied links prices (set costs named price) (record { narrow = λ k. p .narrow (suc k) }) (narrow-set named price c (p .narrow 0))
 
 -- a column of which the front is narrow, and the rest is that of a narrow one
-narrow-whole : (n : ℕ) (l old : List ℕ) → Narrow (take n l) → Narrow old → drop n l ≡ drop n old → Narrow l
+narrow-whole : (n : ℕ) (l old : List ℕ) → SixteenBit (take n l) → SixteenBit old → drop n l ≡ drop n old → SixteenBit l
 narrow-whole n l old front rest e = record { narrow = λ k. at k (decLt k n) }
   where
     at : (k : ℕ) → Dec (k < n) → getD l k 0 ≤ mostCost
@@ -53,7 +53,7 @@ narrow-whole n l old front rest e = record { narrow = λ k. at k (decLt k n) }
         rw same (rest .narrow k)
 
 applied-narrow : {s : State} {starts ends costs changed newcosts list : List ℕ} {d : Done} {costs' list' : List ℕ} → Applied s starts ends costs changed newcosts list d costs' list'
-    → Narrow costs → Narrow newcosts → Narrow costs'
+    → SixteenBit costs → SixteenBit newcosts → SixteenBit costs'
 applied-narrow {s} {costs = costs} {changed} {newcosts} {costs' = costs'} a c n =
     let front = narrow-applied (take (s .rows) changed) (take (s .rows) newcosts) (take (s .links) costs) (narrow-front (s .rows) n) (narrow-front (s .links) c) in
     narrow-whole (s .links) costs' costs (rw (update-accept (a .updated) refl .costs) front) c (a .beyond)

@@ -9,18 +9,18 @@ use native.Mathlib.Decide.{decLt}
 use lib.ListN.{length, getD, take, length-take, List·getD-eq-default}
 use lib.Seq.{getD-take}
 use borrow.Author.Tests.{lt-leb}
-use Rattle.rules.specs.Tree.{Shortest}
+use Rattle.rules.specs.Fit.{Shortest}
 use Rattle.rules.specs.Columns.{Table, table, netOf, rowsOf, mostLinks, mostRows, mostNodes, mostCost}
 use Rattle.rules.specs.Refusals.{Verdict, accepted, refused, judgeLinks}
 use Rattle.rules.specs.Jobs.{changedBelow}
-use Rattle.rules.specs.Demands.{Stands, first, later, Narrow, Stable}
+use Rattle.rules.specs.Demands.{Stands, first, later, SixteenBit, Stable}
 use Rattle.rules.proofs.Logic.{true-false}
 use Rattle.rules.proofs.Sound.{fits-shortest}
 use Rattle.rules.proofs.Judged.{legal, tree-accepted}
 use Rattle.rules.proofs.Accepted.{update-accept}
 use Rattle.demands.proofs.Changed.{changed-named}
 use Rattle.demands.proofs.Demands.{demand-2, demand-3}
-use Rattle.tree.specs.Value.{valueOf}
+use Rattle.tree.specs.Value.{arraysOf}
 use Rattle.stream.specs.declared.Item.{Item}
 use Rattle.stream.specs.declared.Item.the-variants.{Apply, Ask}
 use Rattle.order.specs.declared.Phase.{Phase}
@@ -77,13 +77,13 @@ led-once a b = led-same a b refl
 -- ---- while routing
 
 abbrev TreeGiven : State → Lists → Type 0
-TreeGiven s k = Stands (tableOf s (k .starts) (k .ends) (k .costs)) (valueOf (s .tree))
+TreeGiven s k = Stands (tableOf s (k .starts) (k .ends) (k .costs)) (arraysOf (s .tree))
 
 -- what holds between records already says that the tree is one of shortest routes over the table
-pub holds-shortest : {s : State} {k : Lists} → Holds s k → s .phase ≡ Routing → Shortest (netOf (tableOf s (k .starts) (k .ends) (k .costs))) (rowsOf (valueOf (s .tree)))
+pub holds-shortest : {s : State} {k : Lists} → Holds s k → s .phase ≡ Routing → Shortest (netOf (tableOf s (k .starts) (k .ends) (k .costs))) (rowsOf (arraysOf (s .tree)))
 holds-shortest {s} {k} h p =
     let t = tree-of h p in
-    let fine = tree-accepted (tableOf s (k .starts) (k .ends) (k .costs)) (valueOf (s .tree)) (t .whole) (t .judged) in
+    let fine = tree-accepted (tableOf s (k .starts) (k .ends) (k .costs)) (arraysOf (s .tree)) (t .whole) (t .judged) in
     fits-shortest (legal (fine .0)) (fine .1)
 
 ready-given : {s r : State} {k : Lists} → (s .phase ≡ Routing → TreeGiven s k) → Ready s k r → TreeGiven r k
@@ -121,7 +121,7 @@ led-stands u (next led (ask ready)) q = ready-given (λ o. led-stands u led o) r
 -- ---- ASK
 
 -- a 16-bit column has a 16-bit front
-pub narrow-front : (n : ℕ) {costs : List ℕ} → Narrow costs → Narrow (take n costs)
+pub narrow-front : (n : ℕ) {costs : List ℕ} → SixteenBit costs → SixteenBit (take n costs)
 narrow-front n {costs} c = record { narrow = λ i. at i (decLt i n) }
   where
     at : (i : ℕ) → Dec (i < n) → getD (take n costs) i 0 ≤ mostCost
@@ -132,7 +132,7 @@ narrow-front n {costs} c = record { narrow = λ i. at i (decLt i n) }
 
 -- what an ASK in order tells of a node. (Each cost is a 16-bit number by the column's type.)
 pub asks-given : {s : State} {k : Lists} {node : ℕ} {d : Done} {l : Lists} {from : State} {lent : Lists} {items : List Item}
-    → from .phase ≡ Unread → Led from lent items s k → Narrow (k .costs) → Steps s k (Ask node) d l → isUnread (s .phase) ≡ false → node < s .nodes → Answers k node d
+    → from .phase ≡ Unread → Led from lent items s k → SixteenBit (k .costs) → Steps s k (Ask node) d l → isUnread (s .phase) ≡ false → node < s .nodes → Answers k node d
 asks-given {s} {k} {node} u led c a o l =
     let (r, ready, is, same) = ask-meets a o in
     let given = ready-given (λ p. led-stands u led p) ready in
@@ -152,9 +152,9 @@ apply-reports {s} {k} {d} h a o =
     rw is (record {
       met = r;
       ready = ready;
-      changed = changedBelow (rowsOf (valueOf (r .tree))) (rowsOf (valueOf (d .state .tree))) (r .nodes);
+      changed = changedBelow (rowsOf (arraysOf (r .tree))) (rowsOf (arraysOf (d .state .tree))) (r .nodes);
       told = ap (λ (x : Done). x .out) (up .kept) ∙ ap Changed (done .count);
       listed = done .listed;
       names = changed-named (met-stands h ready .whole) (up .updated);
-      stable = subst (λ (t : Table). Stable (netOf t) (rowsOf (valueOf (r .tree)) .parent) (rowsOf (valueOf (d .state .tree)))) (sym (applied-table up)) (demand-3 (up .updated));
+      stable = subst (λ (t : Table). Stable (netOf t) (rowsOf (arraysOf (r .tree)) .parent) (rowsOf (arraysOf (d .state .tree)))) (sym (applied-table up)) (demand-3 (up .updated));
     })

@@ -1,7 +1,7 @@
 -- A record is refused with a number that is listed for its kind, and a refusal leaves what counts. Assumes nothing.
 use mathlib.Core.Path.{_≡_, refl, sym, ap, _∙_}
 use mathlib.Core.Logic.{_⊎_, inl, inr, _≢_}
-use mathlib.Core.Bool.{Bool, true, false, not, _||_}
+use mathlib.Core.Bool.{Bool, true, false, not, _||_, cond}
 use mathlib.Core.List.{List, []}
 use Prim.Native.Nat.{ℕ, _-_, _≤_, _<_}
 use native.Mathlib.Omega.{arith}
@@ -10,7 +10,7 @@ use lib.Dec.{eqb, ltb, leb}
 use lib.ListN.{length, getD, take}
 use lib.Seq.{length-take-le}
 use borrow.Author.Tests.{lt-leb, eqb-false}
-use Rattle.rules.specs.Tests.{pick, firstBelow}
+use Rattle.rules.specs.Tests.{firstBelow}
 use Rattle.rules.specs.Columns.{table, mostLinks, mostRows}
 use Rattle.rules.specs.Refusals.{Verdict, accepted, refused, _then_, when, wrongNodeCount, wrongRoot, wrongEnds, judgeLinks}
 use Rattle.rules.proofs.Judged.{not-refused}
@@ -67,12 +67,12 @@ network-number nodes root {n} {x} e = at (wrongNodeCount (table nodes root [] []
     at false true q = inr (cc)
     at false false q = absurd (not-refused (sym q))
 
-last-number : (ends order : Bool) (p : ℕ) {n x : ℕ} → pick ends (refused 4 p) accepted then pick order (refused 5 p) accepted ≡ refused n x → (n ≡ 4) ⊎ (n ≡ 5)
+last-number : (ends order : Bool) (p : ℕ) {n x : ℕ} → cond ends (refused 4 p) accepted then cond order (refused 5 p) accepted ≡ refused n x → (n ≡ 4) ⊎ (n ≡ 5)
 last-number true order p e = inl (cc)
 last-number false true p e = inr (cc)
 last-number false false p e = absurd (not-refused (sym e))
 
-row-number : (none named : Bool) (p : ℕ) {n x : ℕ} → pick (none || named) (refused (pick none 8 9) p) accepted ≡ refused n x → (n ≡ 8) ⊎ (n ≡ 9)
+row-number : (none named : Bool) (p : ℕ) {n x : ℕ} → cond (none || named) (refused (cond none 8 9) p) accepted ≡ refused n x → (n ≡ 8) ⊎ (n ≡ 9)
 row-number true named p e = inl (cc)
 row-number false true p e = inr (cc)
 row-number false false p e = absurd (not-refused (sym e))

@@ -4,12 +4,12 @@ use mathlib.Core.Bool.{Bool, true, false}
 use mathlib.Core.List.{List, [], _++_}
 use Prim.Native.Nat.{ℕ}
 use lib.ListN.{take, drop, take-append-drop}
-use Rattle.rules.specs.Columns.{Tree as Arrays, table}
+use Rattle.rules.specs.Columns.{Arrays, table}
 use Rattle.rules.specs.Refusals.{Verdict, judgeLinks}
 use Rattle.rules.proofs.Logic.{true-false}
 use Rattle.rules.proofs.OneOutcome.{built-once, updated-once}
 use Rattle.tree.specs.declared.Tree.{Tree}
-use Rattle.tree.specs.Value.{valueOf}
+use Rattle.tree.specs.Value.{arraysOf}
 use Rattle.stream.specs.declared.Item.{Item}
 use Rattle.stream.specs.declared.Item.the-variants.{Network, Link, Change, Apply, Ask, End, UnknownKind, CutShort}
 use Rattle.state.specs.declared.Out.the-variants.{Nothing}
@@ -25,7 +25,7 @@ use Rattle.session.specs.Steps.{linkVerdict, linkLists, changeVerdict, changeLi
 struct-of : Arrays → Tree
 struct-of a = record { dist = a .dist; parent = a .parent; first = a .first }
 
-value-once : {t u : Tree} → valueOf t ≡ valueOf u → t ≡ u
+value-once : {t u : Tree} → arraysOf t ≡ arraysOf u → t ≡ u
 unfolding struct-of
 value-once e = ap struct-of e
 

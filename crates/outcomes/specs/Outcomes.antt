@@ -8,8 +8,8 @@ use Prim.Native.Nat.{ℕ, _≤_}
 use lib.ListN.{length}
 use Rattle.rules.specs.Columns.{netOf, rowsOf, mostLinks, mostRows, mostCost}
 use Rattle.rules.specs.Jobs.{written}
-use Rattle.rules.specs.Demands.{Stands, LeastSums, Names, Stable, Narrow}
-use Rattle.tree.specs.Value.{valueOf}
+use Rattle.rules.specs.Demands.{Stands, LeastSums, Names, Stable, SixteenBit}
+use Rattle.tree.specs.Value.{arraysOf}
 use Rattle.stream.specs.declared.Item.{Item}
 use Rattle.stream.specs.declared.Item.the-variants.{Network, Link, Change, Apply, Ask, End, UnknownKind, CutShort}
 use Rattle.state.specs.declared.Out.the-variants.{Row, Changed}
@@ -54,9 +54,9 @@ pub data Led (from : State) (lent : Lists) : List Item → State → Lists → T
 -- an ASK tells the node's row of the tree that the rules give for the links and the changes applied so far; its
 -- distances are the least sums
 pub record Answers (k : Lists) (node : ℕ) (d : Done) : Type 0 where
-  pub told : d .out ≡ Row node (rowsOf (valueOf (d .state .tree)) .dist node) (rowsOf (valueOf (d .state .tree)) .parent node) (rowsOf (valueOf (d .state .tree)) .first node)
-  pub stands : Stands (tableOf (d .state) (k .starts) (k .ends) (k .costs)) (valueOf (d .state .tree))
-  pub least : LeastSums (tableOf (d .state) (k .starts) (k .ends) (k .costs)) (valueOf (d .state .tree))
+  pub told : d .out ≡ Row node (rowsOf (arraysOf (d .state .tree)) .dist node) (rowsOf (arraysOf (d .state .tree)) .parent node) (rowsOf (arraysOf (d .state .tree)) .first node)
+  pub stands : Stands (tableOf (d .state) (k .starts) (k .ends) (k .costs)) (arraysOf (d .state .tree))
+  pub least : LeastSums (tableOf (d .state) (k .starts) (k .ends) (k .costs)) (arraysOf (d .state .tree))
 
 -- an APPLY tells how many nodes it lists: those whose row differs from the row in the tree that it met, in rising order
 -- at the front of the list, whose other places stay. No tree that fits keeps more nodes on their link
@@ -66,8 +66,8 @@ pub record Reports (s : State) (k : Lists) (d : Done) (l : Lists) : Type 0 where
   pub changed : List ℕ
   pub told : d .out ≡ Changed (length changed)
   pub listed : l .list ≡ written changed (k .list)
-  pub names : Names (rowsOf (valueOf (met .tree))) (rowsOf (valueOf (d .state .tree))) changed
-  pub stable : Stable (netOf (tableOf (d .state) (l .starts) (l .ends) (l .costs))) (rowsOf (valueOf (met .tree)) .parent) (rowsOf (valueOf (d .state .tree)))
+  pub names : Names (rowsOf (arraysOf (met .tree))) (rowsOf (arraysOf (d .state .tree))) changed
+  pub stable : Stable (netOf (tableOf (d .state) (l .starts) (l .ends) (l .costs))) (rowsOf (arraysOf (met .tree)) .parent) (rowsOf (arraysOf (d .state .tree)))
 
 -- a LINK's or CHANGE's cost is a 16-bit number
 abbrev pub CostFits : Item → Type 0
@@ -82,5 +82,5 @@ CostFits (CutShort place) = Unit {0}
 
 -- and so are the costs that stand in the lent columns
 pub record CostsFit (k : Lists) : Type 0 where
-  pub costs : Narrow (k .costs)
-  pub newcosts : Narrow (k .newcosts)
+  pub costs : SixteenBit (k .costs)
+  pub newcosts : SixteenBit (k .newcosts)

@@ -13,7 +13,7 @@ use Rattle.rules.specs.Columns.{mostNodes}
 use Rattle.rules.specs.Keep.{count}
 use Rattle.rules.proofs.Logic.{count-lt, count-all}
 use Rattle.rules.specs.Jobs.{written}
-use Rattle.path.specs.Climb.{Parents, distAt, linkTo, above, Step, Climbable, Way, at-root, by-parent, Counted, Filled, Traces, traced, short}
+use Rattle.path.specs.Climb.{Parents, distAt, linkTo, above, Step, Climbable, Way, at-root, by-parent, Counted, FilledFrom, Traces, traced, short}
 use Rattle.path.specs.declared.Traced.the-variants.{Written, TooShort}
 
 -- ---- the list
@@ -39,7 +39,7 @@ pub record Last (p : Parents) (v n : ℕ) : Type 0 where
   pub rest : Counted p (above p v) 0 (n - 1)
 
 module _ {p : Parents} where
-  none-to-root : {v n : ℕ} {links : List ℕ} → Way p v links → v ≡ p .root → 0 + length links ≡ n → (list : List ℕ) → Filled p v n list list
+  none-to-root : {v n : ℕ} {links : List ℕ} → Way p v links → v ≡ p .root → 0 + length links ≡ n → (list : List ℕ) → FilledFrom p v n list list
   none-to-root at-root here e list = record { links = []; way = at-root; count = omega arith; listed = refl }
   none-to-root (by-parent m s w) here e list = absurd (m here)
 
@@ -56,7 +56,7 @@ module _ {p : Parents} {v : ℕ} where
     pub counted-root : {below : ℕ} → Counted p v below below
     counted-root = record { links = []; way = rw here at-root; count = omega arith }
 
-    pub filled-root : {n : ℕ} → Counted p v 0 n → (list : List ℕ) → Filled p v n list list
+    pub filled-root : {n : ℕ} → Counted p v 0 n → (list : List ℕ) → FilledFrom p v n list list
     filled-root c list = none-to-root (c .way) here (c .count) list
 
   -- ---- below it, where u is the node that v's parent link k starts at
@@ -85,7 +85,7 @@ module _ {p : Parents} {v : ℕ} where
       }
 
       pub filled-more : {n : ℕ} {list exit : List ℕ} → Step p v → 0 < n → n ≤ length list
-          → Filled p u (n - 1) (set list (n - 1) (linkTo p v)) exit → Filled p v n list exit
+          → FilledFrom p u (n - 1) (set list (n - 1) (linkTo p v)) exit → FilledFrom p v n list exit
       filled-more {n} {list} s some room f =
           let long : suc (length (f .links)) ≡ n = omega (arith, f .count) in
           record {
@@ -128,11 +128,11 @@ few-links {p} {v} l c = omega (arith, c .count, links-nearer p (c .way), not-all
 
 -- ---- the list that is lent
 
-pub filled-long : {p : Parents} {v n : ℕ} {entry exit : List ℕ} → Filled p v n entry exit → n ≤ length exit
+pub filled-long : {p : Parents} {v n : ℕ} {entry exit : List ℕ} → FilledFrom p v n entry exit → n ≤ length exit
 filled-long {entry = entry} f =
     rw (f .listed) (omega (arith, f .count, length-append (f .links) (drop (length (f .links)) entry)))
 
-pub front-long : {p : Parents} {v n : ℕ} {entry exit : List ℕ} → Filled p v n entry exit → length (take n exit) ≡ n
+pub front-long : {p : Parents} {v n : ℕ} {entry exit : List ℕ} → FilledFrom p v n entry exit → length (take n exit) ≡ n
 front-long {n = n} {exit = exit} f = length-take-le n exit (filled-long f)
 
 -- one place more of the front is written
@@ -149,7 +149,7 @@ copied-more front list i l m =
 pub traced-short : {p : Parents} {node n : ℕ} {list : List ℕ} → Counted p node 0 n → length list < n → Traces p node list TooShort list
 traced-short c l = short (c .way) (omega (arith, c .count))
 
-pub traced-whole : {p : Parents} {node n : ℕ} {room links list exit : List ℕ} → Filled p node n room links → n ≤ length list
+pub traced-whole : {p : Parents} {node n : ℕ} {room links list exit : List ℕ} → FilledFrom p node n room links → n ≤ length list
     → exit ≡ written (take n links) list → Traces p node list (Written n) exit
 traced-whole {n = n} {room} {links} f l e =
     let front : take n links ≡ f .links = rw (f .listed) (take-at (f .links) (drop (length (f .links)) room) n (f .count)) in

@@ -10,9 +10,9 @@ use native.Mathlib.Omega.{arith}
 use lib.Dec.{leb}
 use lib.ListN.{length, getD}
 use borrow.Author.Tests.{leb-false, not-false}
-use Rattle.rules.specs.Tree.{Row, root, hung, bare, Hung, Fits, Path, Reached}
+use Rattle.rules.specs.Fit.{Row, root, hung, bare, Hung, Fits, Path, Reached}
 use Rattle.rules.specs.Tests.{reached}
-use Rattle.rules.specs.Columns.{Table, Tree, Proper, Whole, netOf, rowsOf, unreached, noLink, noCeiling}
+use Rattle.rules.specs.Columns.{Table, Arrays, Proper, Whole, netOf, rowsOf, unreached, noLink, noCeiling}
 use Rattle.rules.specs.Refusals.{Verdict, accepted, refused, when, judgeTree, judgeAsked}
 use Rattle.rules.specs.Jobs.{Pathed, pathed, too-short}
 use Rattle.rules.proofs.Logic.{true-T, getD-any}
@@ -32,10 +32,10 @@ abbrev pub countOf : Traced → ℕ
 countOf (Written n) = n
 countOf TooShort = 0
 
-abbrev pub parentsOf : Table → Tree → Parents
+abbrev pub parentsOf : Table → Arrays → Parents
 parentsOf t tree = parents (t .root) (t .starts) (tree .dist) (tree .parent)
 
-module _ {t : Table} {tree : Tree} (a : Proper t) (w : Whole tree) (F : Fits (netOf t) (rowsOf tree)) where
+module _ {t : Table} {tree : Arrays} (a : Proper t) (w : Whole tree) (F : Fits (netOf t) (rowsOf tree)) where
   hung-at : (v : ℕ) → Reached (netOf t) (rowsOf tree) v → v ≢ t .root → Hung (netOf t) (rowsOf tree) v
   hung-at v s n = hangs (F .row v) n s
 
@@ -70,7 +70,7 @@ module _ {t : Table} {tree : Tree} (a : Proper t) (w : Whole tree) (F : Fits (ne
 
 -- ---- an asked node that isn't refused
 
-module _ (t : Table) (tree : Tree) (node : ℕ) (w : Whole tree) (e : judgeAsked t tree node ≡ accepted) where
+module _ (t : Table) (tree : Arrays) (node : ℕ) (w : Whole tree) (e : judgeAsked t tree node ≡ accepted) where
   fits : Proper t × Fits (netOf t) (rowsOf tree)
   unfolding judgeAsked
   fits = tree-accepted t tree w (then-first (judgeTree t tree) _ e)

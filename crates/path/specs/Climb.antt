@@ -57,7 +57,7 @@ module _ (p : Parents) where
     pub count : below + length links ≡ total
 
   -- the links of v's path, n of them, stand at the list's front, and its other places stay
-  pub record Filled (v n : ℕ) (entry exit : List ℕ) : Type 0 where
+  pub record FilledFrom (v n : ℕ) (entry exit : List ℕ) : Type 0 where
     pub links : List ℕ
     pub way : Way v links
     pub count : length links ≡ n

@@ -4,7 +4,7 @@ ghost use Prim.Native.Nat.{_+_, _≤_, _<_};
 ghost use lib.ListN.{length, getD};
 ghost use Rattle.rules.specs.Columns.{mostNodes, noCeiling};
 ghost use Rattle.rules.specs.Jobs.{written};
-ghost use Rattle.path.specs.Climb.{parents, distAt, Climbable, Counted, Filled, Traces};
+ghost use Rattle.path.specs.Climb.{parents, distAt, Climbable, Counted, FilledFrom, Traces};
 
 // How many links stand at the list's front now, or that the list has no room for them.
 pub enum Traced {
@@ -53,7 +53,7 @@ fn fill<'a, 's>(
     links: &mut [u16; 256],
 )
     requires { ⌜ (node < mostNodes) × Counted (parents root (now (now starts)) (now dist) (now parent)) node 0 n × (length (now links) ≡ mostNodes) ⌝ }
-    ensures { λ _. ⌜ Filled (parents root (now (now (starts .entry))) (now (dist .entry)) (now (parent .entry))) node n (now (links .entry)) (now (links .exit)) ⌝ }
+    ensures { λ _. ⌜ FilledFrom (parents root (now (now (starts .entry))) (now (dist .entry)) (now (parent .entry))) node n (now (links .entry)) (now (links .exit)) ⌝ }
 {
     if node != root {
         let link = parent[node];

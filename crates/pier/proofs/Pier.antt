@@ -10,10 +10,10 @@ use lib.Dec.{T, eqb, eqb→eq, T-not}
 use lib.ListN.{length}
 use borrow.Author.Tests.{le-ltb}
 use Rattle.rules.specs.Net.{Net, Usable}
-use Rattle.rules.specs.Tree.{Rows, Tight, Hung, Row, Fits, Path, at-root, by-parent}
+use Rattle.rules.specs.Fit.{Rows, Tight, Hung, Row, Fits, Path, at-root, by-parent}
 use Rattle.rules.specs.Keep.{Smallest, Choice, keeps, takes, Fresh, Next}
 use Rattle.rules.specs.Tests.{all, usable, tight, hungRow, breaks}
-use Rattle.rules.specs.Columns.{Table, Proper, Tree, Whole, netOf, rowsOf, mostNodes, after, applied}
+use Rattle.rules.specs.Columns.{Table, Proper, Arrays, Whole, netOf, rowsOf, mostNodes, after, applied}
 use Rattle.rules.specs.Refusals.{Verdict, accepted, refused, judgeLinks, judgeTree, judgeBatch, judgeUpdate, judgeAsked}
 use Rattle.rules.specs.Jobs.{changedBelow, built, updated, not-updated, pathed}
 use Rattle.pier.specs.Pier.{Line, fresh, update, refuse, path, LineHolds, LinesHold, pierLines}
@@ -39,7 +39,7 @@ same [] (y ∷ ys) = false
 same (x ∷ xs) [] = false
 same (x ∷ xs) (y ∷ ys) = eqb x y && same xs ys
 
-unfoldable whole : Tree → Bool
+unfoldable whole : Arrays → Bool
 whole t = eqb (length (t .dist)) mostNodes && eqb (length (t .parent)) mostNodes && eqb (length (t .first)) mostNodes
 
 module _ (N : Net) (r : Rows) where
@@ -110,7 +110,7 @@ same-of (x ∷ xs) (y ∷ ys) q =
     let b = same-of xs ys (and-r (eqb x y) (same xs ys) q) in
     cc
 
-whole-of : (t : Tree) → T (whole t) → Whole t
+whole-of : (t : Arrays) → T (whole t) → Whole t
 unfolding whole
 whole-of t q = search (and-l, and-r, eqb→eq)
 
@@ -149,7 +149,7 @@ module _ (N : Net) (r : Rows) where
       at (inl n) = absurd (T-not (hungRow N r v) n (hung-is N r v h))
       at (inr y) = y
 
-module _ {t : Table} (a : Proper t) (tree : Tree) (w : Whole tree) where
+module _ {t : Table} (a : Proper t) (tree : Arrays) (w : Whole tree) where
   fits-of : T (fits (netOf t) (rowsOf tree)) → Fits (netOf t) (rowsOf tree)
   unfolding fits
   fits-of q = record { row = λ v. at v (decLt v mostNodes) }
@@ -176,15 +176,15 @@ module _ {t : Table} (a : Proper t) (tree : Tree) (w : Whole tree) where
   }
 
 -- an accepted batch with a list that is long enough is accepted, and a refused batch is refused with any list
-long-enough : (t : Table) (old : Tree) (batch : List Change) (list : List ℕ) → judgeBatch t old batch ≡ accepted → t .nodes ≤ length list → judgeUpdate t old batch list ≡ accepted
+long-enough : (t : Table) (old : Arrays) (batch : List Change) (list : List ℕ) → judgeBatch t old batch ≡ accepted → t .nodes ≤ length list → judgeUpdate t old batch list ≡ accepted
 unfolding judgeUpdate
 long-enough t old batch list e l = rw (e, le-ltb (length list) (t .nodes) l) refl
 
-still-refused : (t : Table) (old : Tree) (batch : List Change) (list : List ℕ) {n x : ℕ} → judgeBatch t old batch ≡ refused n x → judgeUpdate t old batch list ≡ refused n x
+still-refused : (t : Table) (old : Arrays) (batch : List Change) (list : List ℕ) {n x : ℕ} → judgeBatch t old batch ≡ refused n x → judgeUpdate t old batch list ≡ refused n x
 unfolding judgeUpdate
 still-refused t old batch list e = rw e refl
 
-batch-table : (t : Table) (old : Tree) (batch : List Change) → judgeBatch t old batch ≡ accepted → Proper t
+batch-table : (t : Table) (old : Arrays) (batch : List Change) → judgeBatch t old batch ≡ accepted → Proper t
 unfolding judgeBatch
 batch-table t old batch e = tree-links t old (then-first (judgeTree t old) _ e)
 

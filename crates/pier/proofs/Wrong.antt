@@ -6,7 +6,7 @@ use mathlib.Core.List.{List, [], _∷_}
 use Prim.Native.Nat.{ℕ, _≤_}
 use native.Mathlib.Omega.{arith}
 use lib.ListN.{length}
-use Rattle.rules.specs.Columns.{Tree, rowsOf, after, applied}
+use Rattle.rules.specs.Columns.{Arrays, rowsOf, after, applied}
 use Rattle.rules.specs.Refusals.{Verdict, accepted, refused}
 use Rattle.rules.specs.Jobs.{written, Built, Updated}
 use Rattle.pier.specs.Pier.{LinesHold, pierLines, pier, lone, rows, padded, batch2, batch4, tree1, tree2, tree4, tree12}
@@ -33,23 +33,23 @@ p12 : Built lone accepted tree12
 unfolding LinesHold pierLines
 p12 = pier-holds .1 .1 .1 .1 .1 .1 .1 .1 .1 .1 .1 .1 .0
 
-differ-at : {r s : Tree} (v : ℕ) → rowsOf r .dist v ≢ rowsOf s .dist v → r ≢ s
-differ-at v n e = n (ap (λ (t : Tree). rowsOf t .dist v) e)
+differ-at : {r s : Arrays} (v : ℕ) → rowsOf r .dist v ≢ rowsOf s .dist v → r ≢ s
+differ-at v n e = n (ap (λ (t : Arrays). rowsOf t .dist v) e)
 
 -- ---- a build that refuses every time
 
-pub never-builds : {number value : ℕ} {tree : Tree} → Built pier (refused number value) tree → ⊥
+pub never-builds : {number value : ℕ} {tree : Arrays} → Built pier (refused number value) tree → ⊥
 never-builds b = not-refused (built-once b p1 .verdict)
 
 -- ---- one fixed tree
 
-pub fixed-tree : {tree : Tree} → Built pier accepted tree → Built lone accepted tree → ⊥
+pub fixed-tree : {tree : Arrays} → Built pier accepted tree → Built lone accepted tree → ⊥
 unfolding tree1 tree12 rows padded
 fixed-tree a b = differ-at 1 (λ e. omega arith) (sym (built-once a p1 .tree) ∙ built-once b p12 .tree)
 
 module _ {list costs listed : List ℕ} {count : ℕ} (long : 4 ≤ length list) where
   -- ---- an update that refuses every time
-  pub never-updates : {number value : ℕ} {tree : Tree} → Updated pier tree1 batch2 list (refused number value) tree costs listed count → ⊥
+  pub never-updates : {number value : ℕ} {tree : Arrays} → Updated pier tree1 batch2 list (refused number value) tree costs listed count → ⊥
   never-updates u = not-refused (updated-once u (p2 list long) .verdict)
 
   -- ---- one that hands its tree back
@@ -61,20 +61,20 @@ module _ {list costs listed : List ℕ} {count : ℕ} (long : 4 ≤ length list)
   pub first-only : {v : Verdict} → Updated (after pier batch2) tree2 batch4 list v tree2 costs listed count → ⊥
   unfolding tree2 tree4 rows padded
   first-only u =
-      let same = ap (λ (t : Tree). rowsOf t .parent 2) (updated-once u (p4 list long) .tree) in
+      let same = ap (λ (t : Arrays). rowsOf t .parent 2) (updated-once u (p4 list long) .tree) in
       omega arith
 
   -- ---- a made-up count of changed nodes
-  pub made-up-count : {v : Verdict} {tree : Tree} → Updated pier tree1 batch2 list v tree costs listed count → count ≢ 3 → ⊥
+  pub made-up-count : {v : Verdict} {tree : Arrays} → Updated pier tree1 batch2 list v tree costs listed count → count ≢ 3 → ⊥
   made-up-count u n = n (updated-once u (p2 list long) .count)
 
   -- ---- nodes counted only where the distance moved: P4 moves none
-  pub moved-only : {v : Verdict} {tree : Tree} → Updated (after pier batch2) tree2 batch4 list v tree costs listed count → count ≡ 0 → ⊥
+  pub moved-only : {v : Verdict} {tree : Arrays} → Updated (after pier batch2) tree2 batch4 list v tree costs listed count → count ≡ 0 → ⊥
   moved-only u z = omega (arith, updated-once u (p4 list long) .count)
 
   -- ---- a rebuild from nothing, which is P3; two passes, raising and then lowering, end with the same tree
   pub rebuilds : {v : Verdict} → Updated pier tree1 batch2 list v tree4 costs listed count → ⊥
   unfolding tree2 tree4 rows padded
   rebuilds u =
-      let same = ap (λ (t : Tree). rowsOf t .parent 2) (updated-once u (p2 list long) .tree) in
+      let same = ap (λ (t : Arrays). rowsOf t .parent 2) (updated-once u (p2 list long) .tree) in
       omega arith

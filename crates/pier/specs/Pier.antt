@@ -3,7 +3,7 @@
 use mathlib.Core.List.{List, [], _∷_, _++_}
 use Prim.Native.Nat.{ℕ, _-_, _≤_}
 use lib.ListN.{length, replicate}
-use Rattle.rules.specs.Columns.{Table, Tree, arrays, mostNodes, unreached, noLink, after, applied}
+use Rattle.rules.specs.Columns.{Table, Arrays, arrays, mostNodes, unreached, noLink, after, applied}
 use Rattle.rules.specs.Refusals.{accepted, refused}
 use Rattle.rules.specs.Jobs.{written, Built, Updated, Pathed}
 use Rattle.rules.specs.declared.Change.{Change}
@@ -32,7 +32,7 @@ link to cost = record { link = link; cost = cost }
 unfoldable pub padded : ℕ → List ℕ → List ℕ
 padded empty entries = entries ++ replicate (mostNodes - length entries) empty
 
-unfoldable pub rows : List ℕ → List ℕ → List ℕ → Tree
+unfoldable pub rows : List ℕ → List ℕ → List ℕ → Arrays
 unfolding padded
 rows dist parent first = arrays (padded unreached dist) (padded noLink parent) (padded noLink first)
 
@@ -43,10 +43,10 @@ none = noLink
 -- ---- what a line says
 
 pub data Line : Type 0 where
-  fresh : (t : Table) (tree : Tree) → Line
-  update : (t : Table) (old : Tree) (batch : List Change) (new : Tree) (changed : List ℕ) → Line
-  refuse : (t : Table) (old : Tree) (batch : List Change) (number value : ℕ) → Line
-  path : (t : Table) (tree : Tree) (node : ℕ) (links : List ℕ) → Line
+  fresh : (t : Table) (tree : Arrays) → Line
+  update : (t : Table) (old : Arrays) (batch : List Change) (new : Arrays) (changed : List ℕ) → Line
+  refuse : (t : Table) (old : Arrays) (batch : List Change) (number value : ℕ) → Line
+  path : (t : Table) (tree : Arrays) (node : ℕ) (links : List ℕ) → Line
 
 -- whatever list is lent, if it is long enough
 abbrev pub LineHolds : Line → Type 0
@@ -68,32 +68,32 @@ batch2 = 3 to 5 ∷ 0 to 2 ∷ []
 unfoldable pub batch4 : List Change
 batch4 = 3 to 6 ∷ []
 
-unfoldable pub tree1 : Tree
+unfoldable pub tree1 : Arrays
 unfolding rows
 tree1 = rows (0 ∷ 4 ∷ 6 ∷ 7 ∷ []) (none ∷ 0 ∷ 3 ∷ 6 ∷ []) (none ∷ 0 ∷ 0 ∷ 0 ∷ [])
 
-unfoldable pub tree2 : Tree
+unfoldable pub tree2 : Arrays
 unfolding rows
 tree2 = rows (0 ∷ 2 ∷ 7 ∷ 8 ∷ []) (none ∷ 0 ∷ 3 ∷ 6 ∷ []) (none ∷ 0 ∷ 0 ∷ 0 ∷ [])
 
 -- P2's distances, with node 2 on link 1
-unfoldable pub tree4 : Tree
+unfoldable pub tree4 : Arrays
 unfolding rows
 tree4 = rows (0 ∷ 2 ∷ 7 ∷ 8 ∷ []) (none ∷ 0 ∷ 1 ∷ 6 ∷ []) (none ∷ 0 ∷ 1 ∷ 1 ∷ [])
 
-unfoldable pub tree7 : Tree
+unfoldable pub tree7 : Arrays
 unfolding rows
 tree7 = rows (0 ∷ 4 ∷ 5 ∷ 6 ∷ []) (none ∷ 0 ∷ 1 ∷ 6 ∷ []) (none ∷ 0 ∷ 1 ∷ 1 ∷ [])
 
-unfoldable pub tree8 : Tree
+unfoldable pub tree8 : Arrays
 unfolding rows
 tree8 = rows (0 ∷ 9 ∷ 7 ∷ 8 ∷ []) (none ∷ 5 ∷ 1 ∷ 6 ∷ []) (none ∷ 1 ∷ 1 ∷ 1 ∷ [])
 
-unfoldable pub tree9 : Tree
+unfoldable pub tree9 : Arrays
 unfolding rows
 tree9 = rows (0 ∷ 4 ∷ 6 ∷ []) (none ∷ 0 ∷ 3 ∷ []) (none ∷ 0 ∷ 0 ∷ [])
 
-unfoldable pub tree12 : Tree
+unfoldable pub tree12 : Arrays
 unfolding rows
 tree12 = rows (0 ∷ []) [] []
 

@@ -2,7 +2,7 @@
 -- everything, then in what stands past the links, past the rows that wait, and in the list. Alike ones stay alike, and
 -- tell the same lines. Assumes nothing.
 use mathlib.Core.Path.{_≡_, refl, sym, ap, _∙_}
-use mathlib.Core.Bool.{Bool, true, false}
+use mathlib.Core.Bool.{Bool, true, false, cond}
 use mathlib.Core.List.{List, [], _∷_, _++_, map}
 use Prim.Native.Nat.{ℕ, _+_, _-_, _≤_, _<_}
 use native.Mathlib.Omega.{arith}
@@ -10,15 +10,14 @@ use native.Mathlib.Decide.{decLt}
 use lib.Dec.{leb}
 use lib.ListN.{length, take, drop, set, length-append, length-drop, length-set, take-append-drop}
 use lib.Seq.{take-all, take-at, set-out}
-use Rattle.rules.specs.Tests.{pick}
-use Rattle.rules.specs.Columns.{Table, table, Tree, rowsOf, applied}
+use Rattle.rules.specs.Columns.{Table, table, Arrays, rowsOf, applied}
 use Rattle.rules.specs.Jobs.{changedBelow, Built}
 use Rattle.rules.specs.Refusals.{Verdict, accepted, refused, judgeLinks}
 use Rattle.rules.specs.declared.Change.{Change as Row-change}
 use Rattle.rules.proofs.OneOutcome.{built-once, next-once}
 use Rattle.rules.proofs.Accepted.{Accept, update-accept, update-good}
 use Rattle.batch.specs.Rows.{rowsOfColumns}
-use Rattle.tree.specs.Value.{valueOf}
+use Rattle.tree.specs.Value.{arraysOf}
 use Rattle.stream.specs.declared.Item.{Item}
 use Rattle.stream.specs.declared.Item.the-variants.{Network, Link, Change, Apply, Ask, End, UnknownKind, CutShort}
 use Rattle.splits.proofs.Splits.{both}
@@ -72,7 +71,7 @@ pub record BothRouting (s : State) (k : Lists) (s' : State) (k' : Lists) : Type 
   pub phase' : s' .phase ≡ Routing
   pub table : SameTable s k s' k'
   pub rows : SameRows s k s' k'
-  pub tree : valueOf (s .tree) ≡ valueOf (s' .tree)
+  pub tree : arraysOf (s .tree) ≡ arraysOf (s' .tree)
 
 pub data Phases (s : State) (k : Lists) (s' : State) (k' : Lists) : Type 0 where
   unread : s .phase ≡ Unread → s' .phase ≡ Unread → Phases s k s' k'
@@ -203,7 +202,7 @@ module _ {s s' : State} {k k' : Lists} (long : SameLong k k') (b : BothLinking s
 table-same : {s s' : State} {k k' : Lists} → SameTable s k s' k' → tableOf s (k .starts) (k .ends) (k .costs) ≡ tableOf s' (k' .starts) (k' .ends) (k' .costs)
 table-same t = λ i. table (t .nodes i) (t .root i) (t .starts i) (t .ends i) (t .costs i)
 
-built-alike : {t t' : Table} {r r' : Tree} → t ≡ t' → Built t accepted r → Built t' accepted r' → r ≡ r'
+built-alike : {t t' : Table} {r r' : Arrays} → t ≡ t' → Built t accepted r → Built t' accepted r' → r ≡ r'
 built-alike e b b' = built-once (rw e at b) b' .tree
 
 begun-alike : {s s' r r' : State} {k k' : Lists} → BothLinking s k s' k' → Begun s (k .starts) (k .ends) (k .costs) r → Begun s' (k' .starts) (k' .ends) (k' .costs) r'
@@ -212,7 +211,7 @@ begun-alike {s} {s'} {r} {r'} {k} {k'} b x y =
     let tree = built-alike (table-same (b .table)) (x .built) (y .built) in
     rw (x .kept, y .kept) (at (r .tree) (r' .tree) tree)
   where
-    at : (t t' : _) → valueOf t ≡ valueOf t'
+    at : (t t' : _) → arraysOf t ≡ arraysOf t'
         → BothRouting (begun s t) k (begun s' t') k'
     at t t' tree = record {
       phase = refl;
@@ -274,7 +273,7 @@ module _ {s s' : State} {k k' : Lists} (long : SameLong k k') (b : BothRouting s
   -- ---- ASK
 
   asked-line : (past : Bool) (node dist parent first place : ℕ) (list list' : List ℕ)
-      → lineOf (pick past (Refused 10) (Row node dist parent first)) list place ≡ lineOf (pick past (Refused 10) (Row node dist parent first)) list' place
+      → lineOf (cond past (Refused 10) (Row node dist parent first)) list place ≡ lineOf (cond past (Refused 10) (Row node dist parent first)) list' place
   asked-line true node dist parent first place list list' = refl
   asked-line false node dist parent first place list list' = refl
 
@@ -282,11 +281,11 @@ module _ {s s' : State} {k k' : Lists} (long : SameLong k k') (b : BothRouting s
   asked-same node =
       let n = b .table .nodes in
       let t = b .tree in
-      λ i. pick (leb (n i) node) (Refused 10) (Row node (rowsOf (t i) .dist node) (rowsOf (t i) .parent node) (rowsOf (t i) .first node))
+      λ i. cond (leb (n i) node) (Refused 10) (Row node (rowsOf (t i) .dist node) (rowsOf (t i) .parent node) (rowsOf (t i) .first node))
 
   same-ask : (node : ℕ) → Same (record { state = s; out = asked s node }) k (record { state = s'; out = asked s' node }) k'
   same-ask node =
-      let rows = rowsOf (valueOf (s .tree)) in
+      let rows = rowsOf (arraysOf (s .tree)) in
       record {
         line = λ place. asked-line (leb (s .nodes) node) node (rows .dist node) (rows .parent node) (rows .first node) place (k .list) (k' .list)
             ∙ ap (λ (out : Out). lineOf out (k' .list) place) (asked-same node);
@@ -296,13 +295,13 @@ module _ {s s' : State} {k k' : Lists} (long : SameLong k k') (b : BothRouting s
 
 -- ---- APPLY
 
-record SameUpdate (new new' : Tree) (costs costs' listed listed' : List ℕ) (count count' : ℕ) : Type 0 where
+record SameUpdate (new new' : Arrays) (costs costs' listed listed' : List ℕ) (count count' : ℕ) : Type 0 where
   pub trees : new ≡ new'
   pub columns : costs ≡ costs'
   pub counts : count ≡ count'
   pub told : take count listed ≡ take count' listed'
 
-update-alike : {t t' : Table} {old old' new new' : Tree} {batch batch' : List Row-change} {list list' costs costs' listed listed' : List ℕ} {count count' : ℕ}
+update-alike : {t t' : Table} {old old' new new' : Arrays} {batch batch' : List Row-change} {list list' costs costs' listed listed' : List ℕ} {count count' : ℕ}
     → t ≡ t' → old ≡ old' → batch ≡ batch' → Accept t old batch list new costs listed count → Accept t' old' batch' list' new' costs' listed' count'
     → SameUpdate new new' costs costs' listed listed' count count'
 update-alike {t} {t'} {old} {old'} {new} {new'} {batch} {batch'} {list} {list'} {count = count} {count' = count'} e f g a b =
@@ -310,7 +309,7 @@ update-alike {t} {t'} {old} {old'} {new} {new'} {batch} {batch'} {list} {list'} 
     let same = next-once (update-good here .table) (here .whole) (b .whole) (here .next) (b .next) in
     let front = changedBelow (rowsOf old') (rowsOf new) (t' .nodes) in
     let front' = changedBelow (rowsOf old') (rowsOf new') (t' .nodes) in
-    let fronts : front ≡ front' = ap (λ (r : Tree). changedBelow (rowsOf old') (rowsOf r) (t' .nodes)) same in
+    let fronts : front ≡ front' = ap (λ (r : Arrays). changedBelow (rowsOf old') (rowsOf r) (t' .nodes)) same in
     record {
       trees = same;
       columns = here .costs ∙ sym (b .costs);
@@ -347,7 +346,7 @@ module _ {s s' : State} {k k' : Lists} (long : SameLong k k') (b : BothRouting s
   rows-same : waiting s (k .changed) (k .newcosts) ≡ waiting s' (k' .changed) (k' .newcosts)
   rows-same = let r = b .rows in λ i. rowsOfColumns (r .changed i) (r .newcosts i)
 
-  update-same : SameUpdate (valueOf (d .state .tree)) (valueOf (d' .state .tree)) (take (s .links) costs) (take (s' .links) costs') list list' (a .count) (a' .count)
+  update-same : SameUpdate (arraysOf (d .state .tree)) (arraysOf (d' .state .tree)) (take (s .links) costs) (take (s' .links) costs') list list' (a .count) (a' .count)
   update-same = update-alike (table-same (b .table)) (b .tree) rows-same (update-accept (a .updated) refl) (update-accept (a' .updated) refl)
 
   same-apply : Same d (lists (k .starts) (k .ends) costs (k .changed) (k .newcosts) list) d' (lists (k' .starts) (k' .ends) costs' (k' .changed) (k' .newcosts) list')

@@ -7,13 +7,13 @@ use Prim.Native.Nat.{ℕ, zero, suc, _+_, _≤_, _<_}
 use native.Mathlib.Omega.{arith}
 use lib.ListN.{getD, replicate}
 use Rattle.rules.specs.Columns.{mostCost}
-use Rattle.rules.specs.Demands.{Narrow}
+use Rattle.rules.specs.Demands.{SixteenBit}
 use Rattle.stream.specs.declared.Item.{Item}
 use Rattle.stream.specs.declared.Item.the-variants.{Ask}
 use Rattle.stream.specs.declared.Read.{Read}
 use Rattle.stream.specs.Records.{readAt}
 use Rattle.splits.specs.Encoding.{AreBytes}
-use Rattle.splits.proofs.Stands.{Stands, at-end, unknown, cut, a-network, a-link, a-change, an-apply, an-ask, standing}
+use Rattle.splits.proofs.Stands.{StandsStill, at-end, unknown, cut, a-network, a-link, a-change, an-apply, an-ask, standing}
 use Rattle.splits.proofs.Splits.{both}
 use Rattle.splits.proofs.Encoded.{number-fits}
 use Rattle.order.specs.declared.Phase.the-variants.{Unread}
@@ -29,7 +29,7 @@ use Rattle.turn.specs.Turns.{Turns, too-long, reads}
 use Rattle.turns.specs.Filling.{Tells, none as no-turn, then}
 
 -- what stands in a stream of bytes has a 16-bit cost, if any
-read-fits : {stream : List ℕ} → AreBytes stream → {place : ℕ} {read : Read} → Stands stream place read → CostFits (read .item)
+read-fits : {stream : List ℕ} → AreBytes stream → {place : ℕ} {read : Read} → StandsStill stream place read → CostFits (read .item)
 read-fits bytes (at-end l) = tt
 read-fits bytes (unknown l n) = tt
 read-fits bytes (cut l k s) = tt
@@ -71,7 +71,7 @@ pub asks-least : {stream : List ℕ} {place turns node : ℕ} {s r : State} {k a
 asks-least bytes unread f tells steps begun inside = asks-given unread (tells-led tells refl .led) (tells-fit bytes f tells .costs) steps begun inside
 
 -- a column of zeros is one of 16-bit numbers
-pub zeros-fit : (n : ℕ) → Narrow (replicate n 0)
+pub zeros-fit : (n : ℕ) → SixteenBit (replicate n 0)
 zeros-fit n = record { narrow = at n }
   where
     at : (n k : ℕ) → getD (replicate n 0) k 0 ≤ mostCost

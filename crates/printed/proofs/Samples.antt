@@ -1,4 +1,4 @@
--- Lines, computed: what 01-scope.md prints for the pier network, and numbers at the ends of their ranges. Assumes nothing.
+-- Lines, computed: what the scope prints for the pier network, and numbers at the ends of their ranges. Assumes nothing.
 use mathlib.Core.Path.{_≡_, refl, ap, _∙_}
 use mathlib.Core.List.{List, [], _∷_, _++_}
 use Prim.Native.Nat.{ℕ, _≤_, _/_, _%_}

@@ -10,9 +10,9 @@ use native.Mathlib.Decide.{decLt}
 use lib.Dec.{T, eqb, ltb, leb}
 use lib.ListN.{length, getD}
 use borrow.Author.Tests.{lt-ltb, le-ltb, le-leb, eq-eqb, ltb-true, leb-true, eqb-true}
-use Rattle.rules.specs.Tree.{Row, Path}
+use Rattle.rules.specs.Fit.{Row, Path}
 use Rattle.rules.specs.Tests.{firstBelow, breaks, reached}
-use Rattle.rules.specs.Columns.{Table, Tree, netOf, rowsOf, mostNodes, mostLinks, mostRows, unreached}
+use Rattle.rules.specs.Columns.{Table, Arrays, netOf, rowsOf, mostNodes, mostLinks, mostRows, unreached}
 use Rattle.rules.specs.Refusals.{Verdict, accepted, _then_, when, whenOne, wrongNodeCount, wrongRoot, wrongColumns, wrongEndsAt, wrongOrderAt, judgeLinks, judgeTree, linkAt, namesNoLink, namesAgain, firstBadRow, judgeRows, judgeBatch, judgeUpdate, judgeAsked}
 use Rattle.rules.specs.Applies.{FirstOf, BadEnds, start-no-node, end-no-node, start-is-end, Falls, OfTable, no-nodes, many-nodes, root-no-node, ends-unequal, costs-unequal, many-links, wrong-ends, wrong-order, OfTree, of-table, unfit, BadRow, no-link, again, OfUpdate, many-rows, bad-row, OfPath, no-node, no-route, Gives, none, smallest}
 use Rattle.rules.specs.Jobs.{Pathed, pathed, too-short, not-pathed}
@@ -287,7 +287,7 @@ module _ (t : Table) where
 
 -- ---- a tree: 1 to 6
 
-module _ (t : Table) (tree : Tree) where
+module _ (t : Table) (tree : Arrays) where
   breaks-decides : (v : ℕ) → Decides (breaks (netOf t) (rowsOf tree) v) (Row (netOf t) (rowsOf tree) v → ⊥)
   breaks-decides v = record { yes-so = breaks-rule (netOf t) (rowsOf tree) v; so-yes = λ n. at n (breaks (netOf t) (rowsOf tree) v) refl }
     where
@@ -401,7 +401,7 @@ rows-says t batch = record { gives = rows-gives t batch; least = low; most = hig
     high m x (bad (no-link s) f) = omega arith
     high m x (bad (again i s q) f) = omega arith
 
-module _ (t : Table) (tree : Tree) (batch : List Change) (list : List ℕ) where
+module _ (t : Table) (tree : Arrays) (batch : List Change) (list : List ℕ) where
   abbrev Batches : ℕ → ℕ → Type 0
   Batches = Either (OfTree t tree) (Either (Only 7 (mostRows < length batch)) (OfRows t batch))
 
@@ -430,7 +430,7 @@ module _ (t : Table) (tree : Tree) (batch : List Change) (list : List ℕ) where
 
 -- ---- a path: 1 to 6 and 10 to 12
 
-module _ (t : Table) (tree : Tree) (node : ℕ) where
+module _ (t : Table) (tree : Arrays) (node : ℕ) where
   abbrev Askeds : ℕ → ℕ → Type 0
   Askeds = Either (OfTree t tree) (Either (Only 10 (t .nodes ≤ node)) (Only 11 (rowsOf tree .dist node ≡ unreached)))
 
@@ -449,7 +449,7 @@ module _ (t : Table) (tree : Tree) (node : ℕ) where
       let eleven = says-when 11 (not (reached (netOf t) (rowsOf tree) node)) unreached-decides in
       says-then (omega arith) (tree-says t tree) (says-then (omega arith) ten eleven)
 
-module _ (t : Table) (tree : Tree) (node : ℕ) (list : List ℕ) where
+module _ (t : Table) (tree : Arrays) (node : ℕ) (list : List ℕ) where
   -- the path has more links than the list has places
   record Longer : Type 0 where
     links : List ℕ

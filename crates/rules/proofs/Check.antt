@@ -6,7 +6,7 @@ use Prim.Native.Nat.{ℕ, _≤_}
 use native.Mathlib.Decide.{ℕ-discrete}
 use lib.Dec.{T, eqb, ltb, leb, eqb→eq, ltb→lt, leb→le, lt→ltb, le→leb, not-T, T-not}
 use Rattle.rules.specs.Net.{Net, Usable}
-use Rattle.rules.specs.Tree.{Rows, Reached, Tight, Offer, RootRow, Bare, Hung, Row, root, hung, bare}
+use Rattle.rules.specs.Fit.{Rows, Reached, Tight, Offer, RootRow, Bare, Hung, Row, root, hung, bare}
 use Rattle.rules.specs.Tests.{all, usable, reached, sumBy, tight, offers, rootRow, bareRow, firstBy, hungRow, breaks}
 use Rattle.rules.proofs.Logic.{and, and-l, and-r, or-cases, or-l, or-r, eq→eqb, neqb→ne, ne→neqb, all-at, all-is, T-true, T-false, true-T, true-false}
 

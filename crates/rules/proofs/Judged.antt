@@ -11,11 +11,11 @@ use lib.Dec.{eqb, ltb, leb}
 use lib.ListN.{length, getD, List·getD-eq-default}
 use borrow.Author.Tests.{lt-ltb, le-ltb, ltb-false, leb-false, eqb-false, eqb-true, not-false}
 use Rattle.rules.specs.Net.{Legal, Roomy}
-use Rattle.rules.specs.Tree.{Row, bare, Fits}
+use Rattle.rules.specs.Fit.{Row, bare, Fits}
 use Rattle.rules.specs.Tests.{firstBelow, breaks}
-use Rattle.rules.specs.Columns.{Table, Proper, Tree, Whole, netOf, rowsOf, mostNodes, mostLinks, mostCost, unreached, noLink}
+use Rattle.rules.specs.Columns.{Table, Proper, Arrays, Whole, netOf, rowsOf, mostNodes, mostLinks, mostCost, unreached, noLink}
 use Rattle.rules.specs.Refusals.{Verdict, accepted, refused, _then_, when, whenOne, wrongNodeCount, wrongRoot, wrongColumns, wrongEnds, wrongEndsAt, wrongOrderAt, judgeLinks, judgeTree}
-use Rattle.rules.specs.Demands.{Narrow}
+use Rattle.rules.specs.Demands.{SixteenBit}
 use Rattle.rules.proofs.Logic.{First, first-of, true-false}
 use Rattle.rules.proofs.Check.{keeps-rules, breaks-rule}
 
@@ -102,7 +102,7 @@ legal a = record {
   mark-is-far = omega arith;
 }
 
-pub roomy : {t : Table} → Proper t → Narrow (t .costs) → Roomy (netOf t)
+pub roomy : {t : Table} → Proper t → SixteenBit (t .costs) → Roomy (netOf t)
 roomy {t} a c =
     let most = mul-le-mul-left mostCost (a .few-nodes) in
     record { costs = c .narrow; below-ceiling = omega arith; below-mark = omega arith }
@@ -110,7 +110,7 @@ roomy {t} a c =
 -- ---- a tree that is accepted
 
 -- past the arrays, every row is bare
-pub beyond : {t : Table} {tree : Tree} → Proper t → Whole tree → (v : ℕ) → mostNodes ≤ v → Row (netOf t) (rowsOf tree) v
+pub beyond : {t : Table} {tree : Arrays} → Proper t → Whole tree → (v : ℕ) → mostNodes ≤ v → Row (netOf t) (rowsOf tree) v
 beyond {t} {tree} a w v l = bare (record {
   not-root = λ e. omega (arith, a .root-is-node, a .few-nodes);
   unreached = List·getD-eq-default (tree .dist) unreached (omega (arith, w .dist));
@@ -119,7 +119,7 @@ beyond {t} {tree} a w v l = bare (record {
   no-offer = λ k o. omega (arith, o .ends-at, a .ends k (o .usable .is-link), a .few-nodes);
 })
 
-pub tree-accepted : (t : Table) (tree : Tree) → Whole tree → judgeTree t tree ≡ accepted → Proper t × Fits (netOf t) (rowsOf tree)
+pub tree-accepted : (t : Table) (tree : Arrays) → Whole tree → judgeTree t tree ≡ accepted → Proper t × Fits (netOf t) (rowsOf tree)
 unfolding judgeTree
 tree-accepted t tree w e = (fine, record { row = λ v. at v (decLt v mostNodes) })
   where
@@ -133,12 +133,12 @@ tree-accepted t tree w e = (fine, record { row = λ v. at v (decLt v mostNodes) 
     at v (no l) = beyond fine w v (omega arith)
 
 -- a tree that is refused: the number is 6, and the value is the smallest node that breaks a rule
-pub record Unfit (t : Table) (tree : Tree) (v : ℕ) : Type 0 where
+pub record Unfit (t : Table) (tree : Arrays) (v : ℕ) : Type 0 where
   pub node : v < mostNodes
   pub breaks : Row (netOf t) (rowsOf tree) v → ⊥
   pub before : (u : ℕ) → u < v → Row (netOf t) (rowsOf tree) u
 
-pub tree-unfit : (t : Table) (tree : Tree) → judgeLinks t ≡ accepted → {number value : ℕ} → judgeTree t tree ≡ refused number value
+pub tree-unfit : (t : Table) (tree : Arrays) → judgeLinks t ≡ accepted → {number value : ℕ} → judgeTree t tree ≡ refused number value
     → (number ≡ 6) × Unfit t tree value
 unfolding judgeTree
 tree-unfit t tree e f =

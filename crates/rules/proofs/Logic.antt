@@ -2,7 +2,7 @@
 use mathlib.Core.Path.{_≡_, refl, subst}
 use mathlib.Core.Logic.{_⊎_, inl, inr, _≢_}
 use mathlib.Core.List.{List}
-use mathlib.Core.Bool.{Bool, true, false, _&&_, _||_, not}
+use mathlib.Core.Bool.{Bool, true, false, _&&_, _||_, not, cond}
 use Prim.Native.Nat.{ℕ, zero, suc, _+_, _≤_, _<_}
 use native.Mathlib.Omega.{arith}
 use native.Mathlib.Nat.{not-suc-le-zero, lt-suc-self}
@@ -12,7 +12,7 @@ use lib.ListN.{length, getD}
 use lib.Seq.{drop-cons}
 use borrow.Author.Tests.{lt-ltb, le-ltb}
 use Rattle.rules.specs.Keep.{one, count}
-use Rattle.rules.specs.Tests.{pick, all, orNext, firstBelow}
+use Rattle.rules.specs.Tests.{all, orNext, firstBelow}
 
 -- ---- tests
 
@@ -96,7 +96,7 @@ pub record First (p : ℕ → Bool) (n f : ℕ) : Type 0 where
 first-next : (p : ℕ → Bool) (n : ℕ) (b : Bool) → p n ≡ b → {f : ℕ} → First p n f → First p (suc n) (orNext n b f)
 first-next p n b e {f} h = at (decLt f n) b e
   where
-    here : (b : Bool) → p n ≡ b → n ≤ f → First p (suc n) (pick b n (suc n))
+    here : (b : Bool) → p n ≡ b → n ≤ f → First p (suc n) (cond b n (suc n))
     here true q l = record { within = omega arith; before = λ j m. h .before j (omega arith); passes = λ m. q }
     here false q l = record { within = omega arith; before = λ j m. last j m (ℕ-discrete j n); passes = λ m. absurd (omega arith) }
       where

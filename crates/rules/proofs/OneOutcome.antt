@@ -1,5 +1,6 @@
 -- One input admits one outcome: two results that keep the rules on one input are equal, as whole arrays and lists.
 -- Assumes nothing.
+use mathlib.Core.Bool.{cond}
 use mathlib.Core.Path.{_≡_, refl, sym, ap, _∙_}
 use mathlib.Core.List.{List, [], _∷_}
 use Prim.Native.Nat.{ℕ}
@@ -7,9 +8,8 @@ use native.Mathlib.Omega.{arith}
 use lib.ListN.{length, set, length-set}
 use lib.Dec.{eqb}
 use lib.Seq.{ext-getD}
-use Rattle.rules.specs.Tests.{pick}
 use Rattle.rules.specs.Keep.{Fresh, Next}
-use Rattle.rules.specs.Columns.{Table, Proper, Tree, Whole, netOf, rowsOf, applied, after, unreached, noLink}
+use Rattle.rules.specs.Columns.{Table, Proper, Arrays, Whole, netOf, rowsOf, applied, after, unreached, noLink}
 use Rattle.rules.specs.Refusals.{Verdict, accepted, refused, judgeLinks, judgeTree, judgeBatch, judgeUpdate}
 use Rattle.rules.specs.Answers.{told, numberIn, numberOf}
 use Rattle.rules.specs.Jobs.{written, changedBelow, Built, built, not-built, Updated, updated, not-updated, Pathed, pathed, too-short, not-pathed}
@@ -25,17 +25,17 @@ use Rattle.rules.proofs.Judged.{links-proper, legal, then-first, not-re
 answer-of : Verdict → Answer
 answer-of accepted = Accepted
 answer-of (refused number value) =
-    pick (eqb number 1) WrongNodeCount (
-    pick (eqb number 2) WrongRoot (
-    pick (eqb number 3) WrongColumns (
-    pick (eqb number 4) (WrongEnds value) (
-    pick (eqb number 5) (WrongOrder value) (
-    pick (eqb number 6) (TreeUnfit value) (
-    pick (eqb number 7) TooManyRows (
-    pick (eqb number 8) (RowNamesNoLink value) (
-    pick (eqb number 9) (RowNamesLinkAgain value) (
-    pick (eqb number 10) AskedNoNode (
-    pick (eqb number 11) AskedUnreached (
+    cond (eqb number 1) WrongNodeCount (
+    cond (eqb number 2) WrongRoot (
+    cond (eqb number 3) WrongColumns (
+    cond (eqb number 4) (WrongEnds value) (
+    cond (eqb number 5) (WrongOrder value) (
+    cond (eqb number 6) (TreeUnfit value) (
+    cond (eqb number 7) TooManyRows (
+    cond (eqb number 8) (RowNamesNoLink value) (
+    cond (eqb number 9) (RowNamesLinkAgain value) (
+    cond (eqb number 10) AskedNoNode (
+    cond (eqb number 11) AskedUnreached (
     ListTooShort)))))))))))
 
 answer-back : (a : Answer) → answer-of (told a) ≡ a
@@ -86,7 +86,7 @@ module _ (a : Answer) {number : ℕ} (is : number ≡ numberOf a) where
 
 -- ---- trees
 
-pub tree-once : {r s : Tree} → Whole r → Whole s
+pub tree-once : {r s : Arrays} → Whole r → Whole s
     → ((v : ℕ) → rowsOf r .dist v ≡ rowsOf s .dist v) → ((v : ℕ) → rowsOf r .parent v ≡ rowsOf s .parent v) → ((v : ℕ) → rowsOf r .first v ≡ rowsOf s .first v)
     → r ≡ s
 tree-once {r} {s} a b d p f = λ i. record {
@@ -95,21 +95,21 @@ tree-once {r} {s} a b d p f = λ i. record {
   first = ext-getD noLink (r .first) (s .first) (a .first ∙ sym (b .first)) (λ v l. f v) i;
 }
 
-module _ {t : Table} (a : Proper t) {r s : Tree} (R : Whole r) (S : Whole s) {old : ℕ → ℕ} where
+module _ {t : Table} (a : Proper t) {r s : Arrays} (R : Whole r) (S : Whole s) {old : ℕ → ℕ} where
   pub next-once : Next (netOf t) (rowsOf r) old → Next (netOf t) (rowsOf s) old → r ≡ s
   next-once m n = tree-once R S (same-dist (legal a) (m .fits) (n .fits)) (same-parent (legal a) m n) (same-first (legal a) m n)
 
-module _ {t : Table} (a : Proper t) {r s : Tree} (R : Whole r) (S : Whole s) where
+module _ {t : Table} (a : Proper t) {r s : Arrays} (R : Whole r) (S : Whole s) where
   pub fresh-once : Fresh (netOf t) (rowsOf r) → Fresh (netOf t) (rowsOf s) → r ≡ s
   fresh-once m n = next-once a R S (fresh-next (legal a) m) (fresh-next (legal a) n)
 
 -- ---- fresh build
 
-pub record SameBuilt (v w : Verdict) (r s : Tree) : Type 0 where
+pub record SameBuilt (v w : Verdict) (r s : Arrays) : Type 0 where
   pub verdict : v ≡ w
   pub tree : r ≡ s
 
-pub built-once : {t : Table} {v w : Verdict} {r s : Tree} → Built t v r → Built t w s → SameBuilt v w r s
+pub built-once : {t : Table} {v w : Verdict} {r s : Arrays} → Built t v r → Built t w s → SameBuilt v w r s
 built-once {t} (built e a m) (built f b n) = record { verdict = refl; tree = fresh-once (links-proper t e) a b m n }
 built-once (built e a m) (not-built f) = absurd (not-refused (sym f ∙ e))
 built-once (not-built e) (built f b n) = absurd (not-refused (sym e ∙ f))
@@ -137,27 +137,27 @@ after-proper {t} batch a = record {
   order = a .order;
 }
 
-pub update-links : (t : Table) (old : Tree) (batch : List Change) (list : List ℕ) → judgeUpdate t old batch list ≡ accepted → judgeTree t old ≡ accepted
+pub update-links : (t : Table) (old : Arrays) (batch : List Change) (list : List ℕ) → judgeUpdate t old batch list ≡ accepted → judgeTree t old ≡ accepted
 unfolding judgeUpdate judgeBatch
 update-links t old batch list e = then-first (judgeTree t old) _ (then-first (judgeBatch t old batch) _ e)
 
-pub tree-links : (t : Table) (tree : Tree) → judgeTree t tree ≡ accepted → Proper t
+pub tree-links : (t : Table) (tree : Arrays) → judgeTree t tree ≡ accepted → Proper t
 unfolding judgeTree
 tree-links t tree e = links-proper t (then-first (judgeLinks t) _ e)
 
-pub record SameUpdated (v w : Verdict) (r s : Tree) (c d l m : List ℕ) (i j : ℕ) : Type 0 where
+pub record SameUpdated (v w : Verdict) (r s : Arrays) (c d l m : List ℕ) (i j : ℕ) : Type 0 where
   pub verdict : v ≡ w
   pub tree : r ≡ s
   pub costs : c ≡ d
   pub list : l ≡ m
   pub count : i ≡ j
 
-pub updated-once : {t : Table} {old : Tree} {batch : List Change} {list : List ℕ} {v w : Verdict} {r s : Tree} {c d l m : List ℕ} {i j : ℕ}
+pub updated-once : {t : Table} {old : Arrays} {batch : List Change} {list : List ℕ} {v w : Verdict} {r s : Arrays} {c d l m : List ℕ} {i j : ℕ}
     → Updated t old batch list v r c l i → Updated t old batch list w s d m j → SameUpdated v w r s c d l m i j
 updated-once {t} {old} {batch} {list} {r = r} {s = s} (updated x e a p q) (updated y f b o z) =
     let fine = after-proper batch (tree-links t old (update-links t old batch list e)) in
     let tree = next-once fine a b p o in
-    let same : x ≡ y = q ∙ ap (λ (u : Tree). changedBelow (rowsOf old) (rowsOf u) (t .nodes)) tree ∙ sym z in
+    let same : x ≡ y = q ∙ ap (λ (u : Arrays). changedBelow (rowsOf old) (rowsOf u) (t .nodes)) tree ∙ sym z in
     record { verdict = refl; tree = tree; costs = refl; list = ap (λ (u : List ℕ). written u list) same; count = ap length same }
 updated-once (updated x e a p q) (not-updated f) = absurd (not-refused (sym f ∙ e))
 updated-once (not-updated e) (updated y f b o z) = absurd (not-refused (sym e ∙ f))
@@ -170,7 +170,7 @@ pub record SamePathed (v w : Verdict) (l m : List ℕ) (i j : ℕ) : Type 0 wher
   pub list : l ≡ m
   pub count : i ≡ j
 
-pub pathed-once : {t : Table} {tree : Tree} {node : ℕ} {list : List ℕ} {v w : Verdict} {l m : List ℕ} {i j : ℕ}
+pub pathed-once : {t : Table} {tree : Arrays} {node : ℕ} {list : List ℕ} {v w : Verdict} {l m : List ℕ} {i j : ℕ}
     → Pathed t tree node list v l i → Pathed t tree node list w m j → SamePathed v w l m i j
 pathed-once {list = list} (pathed e p a) (pathed f q b) =
     let same = path-unique p refl q in

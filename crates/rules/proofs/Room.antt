@@ -8,7 +8,7 @@ use native.Mathlib.Omega.{arith}
 use native.Mathlib.Nat.{mul-suc, mul-le-mul-left}
 use lib.Dec.{ltb, ltb→lt, lt→ltb}
 use Rattle.rules.specs.Net.{Net, Legal, Roomy, Walk, at-root, along}
-use Rattle.rules.specs.Tree.{Rows, Reached, Tight, Offer, Row, root, hung, bare, Fits}
+use Rattle.rules.specs.Fit.{Rows, Reached, Tight, Offer, Row, root, hung, bare, Fits}
 use Rattle.rules.specs.Keep.{count}
 use Rattle.rules.proofs.Logic.{by-size, count-lt, count-all}
 use Rattle.rules.proofs.Sound.{offered-reached, root-reached}

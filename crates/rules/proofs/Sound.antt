@@ -8,7 +8,7 @@ use native.Mathlib.Omega.{arith}
 use native.Mathlib.Decide.{ℕ-discrete, decLt}
 use lib.ListN.{getD}
 use Rattle.rules.specs.Net.{Net, Legal, Usable, Walk, at-root, along, Least}
-use Rattle.rules.specs.Tree.{Rows, total, Reached, Offer, Bare, Hung, Row, root, hung, bare, Fits, Path, by-parent, Routed, Shortest}
+use Rattle.rules.specs.Fit.{Rows, total, Reached, Offer, Bare, Hung, Row, root, hung, bare, Fits, Path, by-parent, Routed, Shortest}
 use Rattle.rules.proofs.Logic.{by-size}
 
 -- ---- what a row says of its distance

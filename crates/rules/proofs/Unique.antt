@@ -6,7 +6,7 @@ use native.Mathlib.Omega.{arith}
 use native.Mathlib.Nat.{le-antisymm}
 use native.Mathlib.Decide.{ℕ-discrete}
 use Rattle.rules.specs.Net.{Net, Legal}
-use Rattle.rules.specs.Tree.{Rows, Reached, Tight, RootRow, Hung, Bare, Row, root, hung, bare, Fits}
+use Rattle.rules.specs.Fit.{Rows, Reached, Tight, RootRow, Hung, Bare, Row, root, hung, bare, Fits}
 use Rattle.rules.specs.Keep.{Choice, keeps, takes, Fresh, Next}
 use Rattle.rules.proofs.Logic.{by-size}
 use Rattle.rules.proofs.Sound.{no-longer, fits-shortest}

@@ -5,8 +5,8 @@ use mathlib.Core.Logic.{_≢_}
 use mathlib.Core.List.{List}
 use Prim.Native.Nat.{ℕ, _-_, _≤_, _<_}
 use lib.ListN.{length, getD}
-use Rattle.rules.specs.Tree.{Row, Path}
-use Rattle.rules.specs.Columns.{Table, Tree, netOf, rowsOf, mostNodes, mostLinks, mostRows, unreached}
+use Rattle.rules.specs.Fit.{Row, Path}
+use Rattle.rules.specs.Columns.{Table, Arrays, netOf, rowsOf, mostNodes, mostLinks, mostRows, unreached}
 use Rattle.rules.specs.Refusals.{Verdict, accepted, refused, linkAt}
 use Rattle.rules.specs.declared.Change.{Change}
 
@@ -46,7 +46,7 @@ pub data OfTable (t : Table) : (number value : ℕ) → Type 0 where
 
 -- ---- a tree: 1 to 6
 
-pub data OfTree (t : Table) (tree : Tree) : (number value : ℕ) → Type 0 where
+pub data OfTree (t : Table) (tree : Arrays) : (number value : ℕ) → Type 0 where
   of-table : {number value : ℕ} → OfTable t number value → OfTree t tree number value
   -- the tree given doesn't fit: smallest node that breaks a rule
   unfit : {node : ℕ} → FirstOf mostNodes (λ v. Row (netOf t) (rowsOf tree) v → ⊥) node → OfTree t tree 6 node
@@ -59,7 +59,7 @@ pub data BadRow (t : Table) (batch : List Change) (row : ℕ) : (number : ℕ) �
   -- a row names a link of an earlier row
   again : (earlier : ℕ) → earlier < row → linkAt batch earlier ≡ linkAt batch row → BadRow t batch row 9
 
-pub data OfUpdate (t : Table) (old : Tree) (batch : List Change) (list : List ℕ) : (number value : ℕ) → Type 0 where
+pub data OfUpdate (t : Table) (old : Arrays) (batch : List Change) (list : List ℕ) : (number value : ℕ) → Type 0 where
   of-tree : {number value : ℕ} → OfTree t old number value → OfUpdate t old batch list number value
   -- over 256 rows
   many-rows : mostRows < length batch → OfUpdate t old batch list 7 0
@@ -71,7 +71,7 @@ pub data OfUpdate (t : Table) (old : Tree) (batch : List Change) (list : List �
 
 -- ---- a path: 1 to 6 and 10 to 12
 
-pub data OfPath (t : Table) (tree : Tree) (node : ℕ) (list : List ℕ) : (number value : ℕ) → Type 0 where
+pub data OfPath (t : Table) (tree : Arrays) (node : ℕ) (list : List ℕ) : (number value : ℕ) → Type 0 where
   of-tree : {number value : ℕ} → OfTree t tree number value → OfPath t tree node list number value
   -- asked node not below the node count
   no-node : t .nodes ≤ node → OfPath t tree node list 10 0

@@ -7,7 +7,7 @@ use mathlib.Core.List.{List, [], _∷_}
 use Prim.Native.Nat.{ℕ, _-_, _^_, _≤_, _<_}
 use lib.ListN.{length, getD, set, replicate}
 use Rattle.rules.specs.Net.{Net}
-use Rattle.rules.specs.Tree.{Rows}
+use Rattle.rules.specs.Fit.{Rows}
 use Rattle.rules.specs.declared.Change.{Change}
 use Rattle.rules.specs.declared.Profile.{Profile}
 
@@ -82,31 +82,31 @@ pub record Proper (t : Table) : Type 0 where
   pub order : (k : ℕ) → k < length (t .starts) → getD (t .starts) (k - 1) 0 ≤ getD (t .starts) k 0
 
 -- a distance, a parent link and a first link for each of 256 nodes, in three arrays
-pub record Tree : Type 0 where
+pub record Arrays : Type 0 where
   pub dist : List ℕ
   pub parent : List ℕ
   pub first : List ℕ
 
-abbrev pub arrays : List ℕ → List ℕ → List ℕ → Tree
+abbrev pub arrays : List ℕ → List ℕ → List ℕ → Arrays
 arrays dist parent first = record { dist = dist; parent = parent; first = first }
 
-pub record Whole (t : Tree) : Type 0 where
+pub record Whole (t : Arrays) : Type 0 where
   pub dist : length (t .dist) ≡ mostNodes
   pub parent : length (t .parent) ≡ mostNodes
   pub first : length (t .first) ≡ mostNodes
 
-abbrev pub rowsIn : Profile → Tree → Rows
+abbrev pub rowsIn : Profile → Arrays → Rows
 rowsIn p t = record {
   dist = λ v. getD (t .dist) v (p .mark);
   parent = λ v. getD (t .parent) v noLink;
   first = λ v. getD (t .first) v noLink;
 }
 
-abbrev pub rowsOf : Tree → Rows
+abbrev pub rowsOf : Arrays → Rows
 rowsOf t = rowsIn narrow t
 
 -- every node unreached, and no links in it
-abbrev pub emptyTree : Tree
+abbrev pub emptyTree : Arrays
 emptyTree = record { dist = replicate mostNodes unreached; parent = replicate mostNodes noLink; first = replicate mostNodes noLink }
 
 -- the cost column with a batch's costs written into it

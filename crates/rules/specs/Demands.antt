@@ -6,9 +6,9 @@ use mathlib.Core.List.{List}
 use Prim.Native.Nat.{ℕ, _≤_, _<_}
 use lib.ListN.{length, getD}
 use Rattle.rules.specs.Net.{Net, Walk, Least}
-use Rattle.rules.specs.Tree.{Rows, Reached, Fits, Routed}
+use Rattle.rules.specs.Fit.{Rows, Reached, Fits, Routed}
 use Rattle.rules.specs.Keep.{keptCount}
-use Rattle.rules.specs.Columns.{Table, Tree, netOf, rowsOf, after, mostCost, unreached, noLink}
+use Rattle.rules.specs.Columns.{Table, Arrays, netOf, rowsOf, after, mostCost, unreached, noLink}
 use Rattle.rules.specs.Refusals.{accepted}
 use Rattle.rules.specs.Jobs.{written, differs, Built, Updated}
 use Rattle.rules.specs.declared.Change.{Change}
@@ -16,7 +16,7 @@ use Rattle.rules.specs.declared.Change.{Change}
 -- ---- demand 1
 
 -- a refused update leaves tree, costs and list as they were
-pub record Untouched (t : Table) (old : Tree) (list : List ℕ) (new : Tree) (costs listed : List ℕ) (count : ℕ) : Type 0 where
+pub record Untouched (t : Table) (old : Arrays) (list : List ℕ) (new : Arrays) (costs listed : List ℕ) (count : ℕ) : Type 0 where
   pub tree-stays : new ≡ old
   pub costs-stay : costs ≡ t .costs
   pub list-stays : listed ≡ list
@@ -25,18 +25,18 @@ pub record Untouched (t : Table) (old : Tree) (list : List ℕ) (new : Tree) (co
 -- ---- demand 2
 
 -- what stands after a fresh build and after any sequence of accepted batches
-pub data Stands : Table → Tree → Type 0 where
-  first : {t : Table} {tree : Tree} → Built t accepted tree → Stands t tree
-  later : {t : Table} {old new : Tree} {batch : List Change} {list costs listed : List ℕ} {count : ℕ} → Stands t old
+pub data Stands : Table → Arrays → Type 0 where
+  first : {t : Table} {tree : Arrays} → Built t accepted tree → Stands t tree
+  later : {t : Table} {old new : Arrays} {batch : List Change} {list costs listed : List ℕ} {count : ℕ} → Stands t old
       → Updated t old batch list accepted new costs listed count → Stands (after t batch) new
 
 -- each cost is a 16-bit number
-pub record Narrow (costs : List ℕ) : Type 0 where
+pub record SixteenBit (costs : List ℕ) : Type 0 where
   pub narrow : (k : ℕ) → getD costs k 0 ≤ mostCost
 
 -- each node's distance is the least sum of costs over the links then usable; unreached means exactly that no usable
 -- path leads there; every other node's tree path has that length
-pub record LeastSums (t : Table) (tree : Tree) : Type 0 where
+pub record LeastSums (t : Table) (tree : Arrays) : Type 0 where
   pub least : (v : ℕ) → Reached (netOf t) (rowsOf tree) v → Least (netOf t) v (rowsOf tree .dist v)
   pub no-path : (v : ℕ) → rowsOf tree .dist v ≡ unreached → (d : ℕ) → Walk (netOf t) v d → ⊥
   pub only-then : (v : ℕ) → ((d : ℕ) → Walk (netOf t) v d → ⊥) → rowsOf tree .dist v ≡ unreached
@@ -44,7 +44,7 @@ pub record LeastSums (t : Table) (tree : Tree) : Type 0 where
 
 -- the least sums, a tree path of that length with its first link for each reached node, and every other entry empty:
 -- a tree says this exactly when it fits
-pub record TellsRoutes (t : Table) (tree : Tree) : Type 0 where
+pub record TellsRoutes (t : Table) (tree : Arrays) : Type 0 where
   pub sums : LeastSums t tree
   pub root-parent : rowsOf tree .parent (t .root) ≡ noLink
   pub no-parent : (v : ℕ) → rowsOf tree .dist v ≡ unreached → rowsOf tree .parent v ≡ noLink

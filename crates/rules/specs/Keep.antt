@@ -5,7 +5,7 @@ use mathlib.Core.Bool.{Bool, true, false, _&&_, not}
 use Prim.Native.Nat.{ℕ, zero, suc, _+_, _≤_}
 use lib.Dec.{eqb}
 use Rattle.rules.specs.Net.{Net}
-use Rattle.rules.specs.Tree.{Rows, Tight, Hung, Fits}
+use Rattle.rules.specs.Fit.{Rows, Tight, Hung, Fits}
 
 module _ (N : Net) (r : Rows) where
   -- k is the tight link of smallest number into v

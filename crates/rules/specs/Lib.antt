@@ -1,7 +1,7 @@
--- What 01-scope.md says, as definitions, in reading order. Laws about them stand in proofs/, theorems in the crates
+-- What the scope says, as definitions, in reading order. Laws about them stand in proofs/, theorems in the crates
 -- `demands`, `pier` and `once`.
 pub mod Net
-pub mod Tree
+pub mod Fit
 pub mod Keep
 pub mod Tests
 pub mod Columns
@@ -11,4 +11,3 @@ pub mod Answers
 pub mod Jobs
 pub mod Lent
 pub mod Demands
-pub mod Sums

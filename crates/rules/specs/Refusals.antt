@@ -1,11 +1,11 @@
 -- The table of refusals: when each number applies, what it carries, and which of several is given. Assumes nothing.
-use mathlib.Core.Bool.{Bool, _||_, not}
+use mathlib.Core.Bool.{Bool, _||_, not, cond}
 use mathlib.Core.List.{List}
 use Prim.Native.Nat.{ℕ, _-_}
 use lib.Dec.{eqb, ltb, leb}
 use lib.ListN.{length, getD}
-use Rattle.rules.specs.Tests.{pick, firstBelow, reached, breaks}
-use Rattle.rules.specs.Columns.{Table, Tree, narrow, netIn, netOf, rowsIn, rowsOf, mostNodes, mostLinks, mostRows, noLink}
+use Rattle.rules.specs.Tests.{firstBelow, reached, breaks}
+use Rattle.rules.specs.Columns.{Table, Arrays, narrow, netIn, netOf, rowsIn, rowsOf, mostNodes, mostLinks, mostRows, noLink}
 use Rattle.rules.specs.declared.Change.{Change}
 use Rattle.rules.specs.declared.Profile.{Profile}
 
@@ -22,11 +22,11 @@ refused number value then later = refused number value
 
 -- a refusal that applies where the test passes, and carries 0
 abbrev pub when : Bool → ℕ → Verdict
-when test number = pick test (refused number 0) accepted
+when test number = cond test (refused number 0) accepted
 
 -- a refusal that applies where one of the first n places passes the test, and carries the first such place
 abbrev pub whenOne : ℕ → (ℕ → Bool) → ℕ → Verdict
-whenOne n test number = pick (ltb (firstBelow test n) n) (refused number (firstBelow test n)) accepted
+whenOne n test number = cond (ltb (firstBelow test n) n) (refused number (firstBelow test n)) accepted
 
 -- 1: node count 0 or over 256
 abbrev pub wrongNodeCount : Table → Bool
@@ -62,10 +62,10 @@ unfolding wrongEndsAt wrongOrderAt firstBelow
 judgeLinks t = when (wrongNodeCount t) 1 then when (wrongRoot t) 2 then when (wrongColumns t) 3 then judgeEach t
 
 -- 6: the tree given doesn't fit; the smallest node that breaks a rule
-abbrev pub judgeTreeIn : Profile → Table → Tree → Verdict
+abbrev pub judgeTreeIn : Profile → Table → Arrays → Verdict
 judgeTreeIn p t tree = judgeLinks t then whenOne mostNodes (breaks (netIn p t) (rowsIn p tree)) 6
 
-unfoldable pub judgeTree : Table → Tree → Verdict
+unfoldable pub judgeTree : Table → Arrays → Verdict
 unfolding judgeLinks breaks firstBelow
 judgeTree t tree = judgeTreeIn narrow t tree
 
@@ -91,23 +91,23 @@ firstBadRow t batch = firstBelow (λ row. namesNoLink t batch row || namesAgain 
 unfoldable pub judgeRows : Table → List Change → Verdict
 unfolding firstBadRow
 judgeRows t batch =
-    pick (ltb (firstBadRow t batch) (length batch))
-    (refused (pick (namesNoLink t batch (firstBadRow t batch)) 8 9) (firstBadRow t batch))
+    cond (ltb (firstBadRow t batch) (length batch))
+    (refused (cond (namesNoLink t batch (firstBadRow t batch)) 8 9) (firstBadRow t batch))
     accepted
 
 -- 7: over 256 rows
-unfoldable pub judgeBatch : Table → Tree → List Change → Verdict
+unfoldable pub judgeBatch : Table → Arrays → List Change → Verdict
 unfolding judgeTree judgeRows
 judgeBatch t tree batch = judgeTree t tree then when (ltb mostRows (length batch)) 7 then judgeRows t batch
 
 -- 12: the lent list is shorter than the node count
-unfoldable pub judgeUpdate : Table → Tree → List Change → List ℕ → Verdict
+unfoldable pub judgeUpdate : Table → Arrays → List Change → List ℕ → Verdict
 unfolding judgeBatch
 judgeUpdate t tree batch list = judgeBatch t tree batch then when (ltb (length list) (t .nodes)) 12
 
 -- 10: asked node not below the node count; 11: asked node is unreached (12 for a path stands in Jobs.antt, where
 -- the path is known)
-unfoldable pub judgeAsked : Table → Tree → ℕ → Verdict
+unfoldable pub judgeAsked : Table → Arrays → ℕ → Verdict
 unfolding judgeTree reached
 judgeAsked t tree node =
     judgeTree t tree then

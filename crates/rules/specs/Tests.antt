@@ -1,14 +1,10 @@
--- The rules of Tree.antt as tests that compute. Each passes exactly where its rule holds: proofs/Check.antt shows
+-- The rules of Fit.antt as tests that compute. Each passes exactly where its rule holds: proofs/Check.antt shows
 -- it. Assumes nothing.
-use mathlib.Core.Bool.{Bool, true, false, _&&_, _||_, not}
+use mathlib.Core.Bool.{Bool, true, false, _&&_, _||_, not, cond}
 use Prim.Native.Nat.{ℕ, zero, suc, _+_}
 use lib.Dec.{eqb, ltb, leb}
 use Rattle.rules.specs.Net.{Net}
-use Rattle.rules.specs.Tree.{Rows}
-
-abbrev pub pick : {A : Type 0} → Bool → A → A → A
-pick true a b = a
-pick false a b = b
+use Rattle.rules.specs.Fit.{Rows}
 
 -- each number below n passes
 unfoldable pub all : (ℕ → Bool) → ℕ → Bool
@@ -17,7 +13,7 @@ all p (suc n) = p n && all p n
 
 -- the smallest number below n that passes, and n where none does
 abbrev pub orNext : ℕ → Bool → ℕ → ℕ
-orNext n passes found = pick (ltb found n) found (pick passes n (suc n))
+orNext n passes found = cond (ltb found n) found (cond passes n (suc n))
 
 unfoldable pub firstBelow : (ℕ → Bool) → ℕ → ℕ
 firstBelow p zero = zero
@@ -54,7 +50,7 @@ module _ (N : Net) (r : Rows) where
 
   -- the first link of a node whose parent link is k
   abbrev pub firstBy : ℕ → ℕ
-  firstBy k = pick (eqb (N .start k) (N .root)) k (r .first (N .start k))
+  firstBy k = cond (eqb (N .start k) (N .root)) k (r .first (N .start k))
 
   unfoldable pub hungRow : ℕ → Bool
   unfolding reached tight offers all

@@ -1,6 +1,6 @@
 -- What holds between records is kept by every record. Assumes nothing.
 use mathlib.Core.Path.{_≡_, refl, sym, ap, _∙_}
-use mathlib.Core.Bool.{Bool, true, false, not}
+use mathlib.Core.Bool.{Bool, true, false, not, cond}
 use mathlib.Core.List.{List, [], _∷_, _++_}
 use Prim.Native.Nat.{ℕ, zero, suc, _+_, _≤_, _<_}
 use native.Mathlib.Omega.{arith}
@@ -8,9 +8,9 @@ use lib.Dec.{ltb}
 use lib.ListN.{length, set, take, length-append, length-take, length-drop, length-set}
 use lib.Seq.{length-take-le, length-front}
 use borrow.Author.Tests.{le-ltb, ltb-false}
-use Rattle.rules.specs.Tree.{Rows, Fits}
-use Rattle.rules.specs.Tests.{pick, firstBelow, breaks}
-use Rattle.rules.specs.Columns.{Table, Tree, table, netOf, rowsOf, after, mostLinks, mostRows, mostNodes}
+use Rattle.rules.specs.Fit.{Rows, Fits}
+use Rattle.rules.specs.Tests.{firstBelow, breaks}
+use Rattle.rules.specs.Columns.{Table, Arrays, table, netOf, rowsOf, after, mostLinks, mostRows, mostNodes}
 use Rattle.rules.specs.Refusals.{Verdict, accepted, refused, _then_, when, whenOne, judgeLinks, judgeTree, judgeRows, firstBadRow}
 use Rattle.rules.specs.Jobs.{differs, changedBelow}
 use Rattle.rules.specs.declared.Change.{Change as CostChange}
@@ -21,7 +21,7 @@ use Rattle.rules.proofs.OneOutcome.{tree-links, length-applied}
 use Rattle.rules.proofs.Accepted.{built-good, update-accept, update-good}
 use Rattle.batch.specs.Rows.{rowsOfColumns}
 use Rattle.batch.proofs.Laws.{links-fewer}
-use Rattle.tree.specs.Value.{valueOf}
+use Rattle.tree.specs.Value.{arraysOf}
 use Rattle.stream.specs.declared.Item.{Item}
 use Rattle.stream.specs.declared.Item.the-variants.{Network, Link, Change, Apply, Ask, End, UnknownKind, CutShort}
 use Rattle.order.specs.declared.Phase.{Phase}
@@ -85,7 +85,7 @@ none-whenOne : (p : ℕ → Bool) (n number : ℕ) → First p n n → whenOne n
 none-whenOne p n number f = rw (first-is f, le-ltb n n (omega arith)) refl
 
 -- a tree that fits an accepted table is accepted
-fits-accepted : (t : Table) (tree : Tree) → judgeLinks t ≡ accepted → Fits (netOf t) (rowsOf tree) → judgeTree t tree ≡ accepted
+fits-accepted : (t : Table) (tree : Arrays) → judgeLinks t ≡ accepted → Fits (netOf t) (rowsOf tree) → judgeTree t tree ≡ accepted
 unfolding judgeTree
 fits-accepted t tree e f =
     let none : First (breaks (netOf t) (rowsOf tree)) mostNodes mostNodes = record {
@@ -108,7 +108,7 @@ rows-none : (changed newcosts : List ℕ) (n : ℕ) → n ≡ 0 → rowsOfColumn
 unfolding rowsOfColumns
 rows-none changed newcosts n e = rw e refl
 
-tree-links-accepted : (t : Table) (tree : Tree) → judgeTree t tree ≡ accepted → judgeLinks t ≡ accepted
+tree-links-accepted : (t : Table) (tree : Arrays) → judgeTree t tree ≡ accepted → judgeLinks t ≡ accepted
 unfolding judgeTree
 tree-links-accepted t tree e = then-first (judgeLinks t) _ e
 
@@ -167,7 +167,7 @@ begun-stands {s} {r} {starts} {ends} {costs} {changed} {newcosts} t b =
       few-links = omega (arith, links, t .few-links);
       few-rows = omega (arith, rows);
       whole = good .whole;
-      judged = ap (λ (x : Table). judgeTree x (valueOf (r .tree))) same ∙ fits-accepted (tableOf s starts ends costs) (valueOf (r .tree)) (t .judged) (good .fits);
+      judged = ap (λ (x : Table). judgeTree x (arraysOf (r .tree))) same ∙ fits-accepted (tableOf s starts ends costs) (arraysOf (r .tree)) (t .judged) (good .fits);
       rows-judged = ap (λ (x : List CostChange). judgeRows (tableOf r starts ends costs) x) (rows-none changed newcosts (r .rows) rows) ∙ no-rows-accepted (tableOf r starts ends costs);
     }
 
@@ -240,7 +240,7 @@ unfolding changedBelow
 few-changed old new zero = omega arith
 few-changed old new (suc n) = at (differs old new n) (few-changed old new n)
   where
-    at : (b : Bool) → length (changedBelow old new n) ≤ n → length (changedBelow old new n ++ pick b (n ∷ []) []) ≤ suc n
+    at : (b : Bool) → length (changedBelow old new n) ≤ n → length (changedBelow old new n ++ cond b (n ∷ []) []) ≤ suc n
     at true h = omega (arith, length-append (changedBelow old new n) (n ∷ []))
     at false h = omega (arith, length-append (changedBelow old new n) [])
 
@@ -254,9 +254,9 @@ module _ {s : State} {starts ends costs changed newcosts list costs' list' : Lis
 
   list-kept : length list ≡ mostNodes → length list' ≡ length list
   list-kept long =
-      let nodes = changedBelow (rowsOf (valueOf (s .tree))) (rowsOf (valueOf (d .state .tree))) (s .nodes) in
-      let fine = tree-links (tableOf s starts ends costs) (valueOf (s .tree)) (t .judged) in
-      let few : length nodes ≤ length list = omega (arith, few-changed (rowsOf (valueOf (s .tree))) (rowsOf (valueOf (d .state .tree))) (s .nodes), fine .few-nodes) in
+      let nodes = changedBelow (rowsOf (arraysOf (s .tree))) (rowsOf (arraysOf (d .state .tree))) (s .nodes) in
+      let fine = tree-links (tableOf s starts ends costs) (arraysOf (s .tree)) (t .judged) in
+      let few : length nodes ≤ length list = omega (arith, few-changed (rowsOf (arraysOf (s .tree))) (rowsOf (arraysOf (d .state .tree))) (s .nodes), fine .few-nodes) in
       ap length (update-accept (a .updated) refl .listed) ∙ length-front list nodes (length nodes) (sym (length-take-le (length nodes) list few))
 
   apply-stands : TreeStands (d .state) starts ends costs' changed newcosts
@@ -272,8 +272,8 @@ module _ {s : State} {starts ends costs changed newcosts list costs' list' : Lis
         few-links = omega (arith, links, t .few-links);
         few-rows = omega (arith, rows);
         whole = good .whole;
-        judged = ap (λ (x : Table). judgeTree x (valueOf (d .state .tree))) same
-            ∙ fits-accepted (after before batch) (valueOf (d .state .tree)) (after-accepted before batch (tree-links-accepted before (valueOf (s .tree)) (t .judged))) (good .fits);
+        judged = ap (λ (x : Table). judgeTree x (arraysOf (d .state .tree))) same
+            ∙ fits-accepted (after before batch) (arraysOf (d .state .tree)) (after-accepted before batch (tree-links-accepted before (arraysOf (s .tree)) (t .judged))) (good .fits);
         rows-judged = ap (λ (x : List CostChange). judgeRows (tableOf (d .state) starts ends costs') x) (rows-none changed newcosts (d .state .rows) rows)
             ∙ no-rows-accepted (tableOf (d .state) starts ends costs');
       }
@@ -354,4 +354,4 @@ pub steps-disorder : {s : State} {k : Lists} → Holds s k → {item : Item} →
 steps-disorder h o e = both h (rw e (out-of-order o))
 
 pub few-nodes : (s : State) (k : Lists) → treeIn s k → s .nodes ≤ mostNodes
-few-nodes s k t = tree-links (tableOf s (k .starts) (k .ends) (k .costs)) (valueOf (s .tree)) (t .judged) .few-nodes
+few-nodes s k t = tree-links (tableOf s (k .starts) (k .ends) (k .costs)) (arraysOf (s .tree)) (t .judged) .few-nodes

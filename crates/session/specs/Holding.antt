@@ -6,7 +6,7 @@ use lib.ListN.{length}
 use Rattle.rules.specs.Columns.{Whole, mostLinks, mostRows, mostNodes}
 use Rattle.rules.specs.Refusals.{accepted, judgeLinks, judgeTree, judgeRows}
 use Rattle.order.specs.declared.Phase.the-variants.{Unread, Linking, Routing}
-use Rattle.tree.specs.Value.{valueOf}
+use Rattle.tree.specs.Value.{arraysOf}
 use Rattle.state.specs.declared.State.{State}
 use Rattle.state.specs.States.{tableOf, waiting}
 
@@ -34,8 +34,8 @@ pub record TreeStands (s : State) (starts ends costs changed newcosts : List ℕ
   pub columns : Columns starts ends costs
   pub few-links : s .links ≤ mostLinks
   pub few-rows : s .rows ≤ mostRows
-  pub whole : Whole (valueOf (s .tree))
-  pub judged : judgeTree (tableOf s starts ends costs) (valueOf (s .tree)) ≡ accepted
+  pub whole : Whole (arraysOf (s .tree))
+  pub judged : judgeTree (tableOf s starts ends costs) (arraysOf (s .tree)) ≡ accepted
   pub rows-judged : judgeRows (tableOf s starts ends costs) (waiting s changed newcosts) ≡ accepted
 
 -- what the six lent lists hold

@@ -13,7 +13,7 @@ use Rattle.stream.specs.declared.Item.the-variants.{Network, Link, Change, Appl
 use Rattle.order.specs.declared.Phase.the-variants.{Unread, Linking, Routing}
 use Rattle.order.specs.Order.{isUnread, inOrder}
 use Rattle.enter.specs.More.{oneMore, withLink, judgeWaiting, entered}
-use Rattle.tree.specs.Value.{valueOf}
+use Rattle.tree.specs.Value.{arraysOf}
 use Rattle.state.specs.declared.Out.the-variants.{Nothing}
 use Rattle.state.specs.declared.State.{State}
 use Rattle.state.specs.declared.Done.{Done}
@@ -41,14 +41,14 @@ changeLists v s k link cost =
 -- the first record after the LINKs: a fresh tree, and all else as it was
 pub record Begun (s : State) (starts ends costs : List ℕ) (r : State) : Type 0 where
   pub kept : r ≡ begun s (r .tree)
-  pub built : Built (tableOf s starts ends costs) accepted (valueOf (r .tree))
+  pub built : Built (tableOf s starts ends costs) accepted (arraysOf (r .tree))
 
 -- APPLY: the update by the rows that wait is accepted; its count is told, its nodes are listed, and no row waits then
 pub record Applied (s : State) (starts ends costs changed newcosts list : List ℕ) (r : Done) (costs' list' : List ℕ) : Type 0 where
   pub count : ℕ
   pub kept : r ≡ applied s (r .state .tree) count
-  pub updated : Updated (tableOf s starts ends costs) (valueOf (s .tree)) (waiting s changed newcosts) list accepted
-      (valueOf (r .state .tree)) (take (s .links) costs') list' count
+  pub updated : Updated (tableOf s starts ends costs) (arraysOf (s .tree)) (waiting s changed newcosts) list accepted
+      (arraysOf (r .state .tree)) (take (s .links) costs') list' count
   -- the places of the column past the links stay
   pub beyond : drop (s .links) costs' ≡ drop (s .links) costs
 

@@ -9,7 +9,7 @@ use native.Mathlib.Decide.{ℕ-discrete}
 use lib.ListN.{length, getD, set, length-set}
 use lib.Seq.{getD-set-same, getD-set-other}
 use Rattle.rules.specs.Net.{Usable}
-use Rattle.rules.specs.Tree.{Tight}
+use Rattle.rules.specs.Fit.{Tight}
 use Rattle.rules.specs.Columns.{Table, Proper, netOf, rowsOf, arrays, mostNodes, unreached, noLink}
 use Rattle.queue.specs.Queue.{empty, Rekeyed}
 use Rattle.rules.proofs.Logic.{getD-any}

@@ -11,7 +11,7 @@ use lib.ListN.{length, getD}
 use Rattle.rules.specs.Net.{Usable}
 use Rattle.rules.specs.Columns.{Table, Proper, netOf, mostNodes, unreached, noLink}
 use Rattle.rules.proofs.Logic.{true-false}
-use Rattle.settle.specs.Afoot.{Every, Untouched, distAt, Lined, Begun, Calm, Partly}
+use Rattle.settle.specs.Afoot.{Every, Untouched, distAt, Lined, Seeded, Calm, Partly}
 use Rattle.settle.specs.Finding.{Told, unheard, heard, Yields, Finding, GoesOn, Heard, CalmOr}
 use Rattle.settle.proofs.Offers.{fell-none, fell-then, link-fell, partly-fewer, partly-more}
 use Rattle.settle.proofs.Finds.{on-none, on-fewer, on-more}
@@ -74,7 +74,7 @@ heard-none p long = record { partly = p; fell = fell-none; goes-on = on-none lon
 abbrev pub Into : Table → List ℕ → List ℕ → List ℕ → ℕ → ℕ → Type 0
 Into t dist keys first k j = Calm t dist keys j ⊎ ((getD first (netOf t .end j) noLink ≡ noLink) × (j < k))
 
-pub calm-none : {t : Table} {dist keys mins found : List ℕ} → Begun t dist keys mins → length found ≡ mostNodes
+pub calm-none : {t : Table} {dist keys mins found : List ℕ} → Seeded t dist keys mins → length found ≡ mostNodes
     → Heard t (Calm t dist keys) dist keys found (Calm t dist keys) dist keys mins found
 calm-none b long = heard-none (record { begun = b; calm = λ k u c. c }) long
 

@@ -13,7 +13,7 @@ use Rattle.rules.specs.Net.{Usable, along}
 use Rattle.rules.specs.Columns.{Table, Proper, netOf, mostNodes, unreached}
 use Rattle.queue.specs.Queue.{empty, keyOf, Queue, Rekeyed}
 use Rattle.rules.proofs.Logic.{getD-any}
-use Rattle.settle.specs.Afoot.{distAt, keyAt, Keyed, idle, waits, Lined, Within, Begun, Calm, Partly, Offered, left, taken, Fallen, same, lower, Fell}
+use Rattle.settle.specs.Afoot.{distAt, keyAt, Keyed, idle, waits, Lined, Within, Seeded, Calm, Partly, Offered, left, taken, Fallen, same, lower, Fell}
 
 -- ---- entries
 
@@ -155,7 +155,7 @@ module _ {t : Table} (proper : Proper t) {done : ℕ → Type 0} {dist keys mins
           let still : distAt dist' v ≡ distAt dist v = rw d (getD-set-other dist (getD (t .ends) k 0) v (near + getD (t .costs) k 0) unreached n) in
           rw still (p .begun .walks v (omega arith))
 
-  begun-still : Begun t dist' keys' mins'
+  begun-still : Seeded t dist' keys' mins'
   begun-still = record { lined = lined'; root-zero = root-still (link-fell .each (t .root)); walks = walks-still o }
 
   -- the end has no more than was offered

@@ -10,7 +10,7 @@ use native.Mathlib.Decide.{decLt}
 use lib.Dec.{T, ltb, ltb→lt, lt→ltb}
 use Rattle.rules.specs.Net.{Net, Legal, Roomy, Usable, Walk, at-root, along}
 use Rattle.rules.specs.Keep.{count}
-use Rattle.rules.specs.Sums.{Sums}
+use Rattle.hang.specs.Sums.{Sums}
 use Rattle.rules.proofs.Logic.{by-size, count-lt, count-all}
 use Rattle.settle.specs.Afoot.{Within}
 

@@ -9,7 +9,7 @@ use lib.ListN.{length, getD, set, replicate, length-replicate}
 use lib.Seq.{getD-set-same, getD-set-other}
 use Rattle.rules.specs.Net.{Usable, at-root}
 use Rattle.rules.specs.Columns.{Table, Proper, netOf, table, mostNodes, unreached}
-use Rattle.rules.specs.Demands.{Narrow}
+use Rattle.rules.specs.Demands.{SixteenBit}
 use Rattle.rules.proofs.Judged.{legal, roomy}
 use Rattle.queue.specs.Queue.{empty, keyOf, Least, LeastKey, Rekeyed}
 use Rattle.queue.proofs.Laws.{least-key, queue-none}
@@ -149,7 +149,7 @@ module _ {t : Table} {dist keys mins : List ℕ} (p : Afoot t dist keys mins) {u
   pub lighter : weight dist keys' < weight dist keys
   lighter = rw (r .is-set) (weight-taken dist keys u in-keys (c .waiting) (c .is-node))
 
-pub settled : {t : Table} {dist keys mins : List ℕ} {key : ℕ} → Proper t → Narrow (t .costs) → Afoot t dist keys mins → LeastKey mins key → key ≡ empty
+pub settled : {t : Table} {dist keys mins : List ℕ} {key : ℕ} → Proper t → SixteenBit (t .costs) → Afoot t dist keys mins → LeastKey mins key → key ≡ empty
     → Settled t dist keys mins
 settled {t} {dist} {keys} {mins} {key} proper narrow p least none =
     let rest = none-waits (p .begun .lined) least none in

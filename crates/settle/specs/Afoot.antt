@@ -10,7 +10,7 @@ use lib.ListN.{length, getD, set}
 use Rattle.rules.specs.Net.{Net, Usable, Walk}
 use Rattle.rules.specs.Keep.{one}
 use Rattle.rules.specs.Columns.{Table, netOf, mostNodes, unreached}
-use Rattle.rules.specs.Sums.{Sums}
+use Rattle.hang.specs.Sums.{Sums}
 use Rattle.queue.specs.Queue.{empty, keyOf, Queue}
 
 -- node v's distance and its key; v has the mark and no key where there is no such node
@@ -39,7 +39,7 @@ pub record Within (N : Net) (v distance : ℕ) : Type 0 where
   pub within : sum ≤ distance
 
 -- no distance is too small
-pub record Begun (t : Table) (dist keys mins : List ℕ) : Type 0 where
+pub record Seeded (t : Table) (dist keys mins : List ℕ) : Type 0 where
   pub lined : Lined dist keys mins
   pub root-zero : distAt dist (t .root) ≡ 0
   pub walks : (v : ℕ) → distAt dist v < unreached → Within (netOf t) v (distAt dist v)
@@ -51,7 +51,7 @@ pub record Calm (t : Table) (dist keys : List ℕ) (k : ℕ) : Type 0 where
 
 -- besides, of the links that are done only a waiting node's may have something less to offer
 pub record Partly (t : Table) (done : ℕ → Type 0) (dist keys mins : List ℕ) : Type 0 where
-  pub begun : Begun t dist keys mins
+  pub begun : Seeded t dist keys mins
   pub calm : (k : ℕ) → Usable (netOf t) k → done k → Calm t dist keys k
 
 -- which links are done: every one, every one that doesn't leave u, or every one that no row from the i-th on may have made

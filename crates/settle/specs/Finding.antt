@@ -7,7 +7,7 @@ use mathlib.Core.List.{List}
 use Prim.Native.Nat.{ℕ, _+_, _≤_, _<_}
 use lib.ListN.{length, getD, set}
 use Rattle.rules.specs.Net.{Net, Usable}
-use Rattle.rules.specs.Tree.{Rows, Tight}
+use Rattle.rules.specs.Fit.{Rows, Tight}
 use Rattle.rules.specs.Keep.{Smallest}
 use Rattle.rules.specs.Columns.{Table, netOf, rowsOf, arrays, mostNodes, unreached, noLink}
 use Rattle.queue.specs.Queue.{empty}

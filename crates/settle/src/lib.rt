@@ -9,11 +9,11 @@ ghost use lib.Dec.{ltb};
 ghost use Rattle.rules.specs.Columns.{Proper, table, mostNodes, mostCost, unreached};
 ghost use Rattle.queue.specs.Queue.{empty};
 ghost use Rattle.hang.specs.Passes.{Leaving};
-ghost use Rattle.settle.specs.Afoot.{distAt, Lined, Begun, Calm, Partly, Every, NotFrom, Untouched, Rows, Afoot, Settled, Offered, weight, FirstOf, Firsts};
+ghost use Rattle.settle.specs.Afoot.{distAt, Lined, Seeded, Calm, Partly, Every, NotFrom, Untouched, Rows, Afoot, Settled, Offered, weight, FirstOf, Firsts};
 ghost use Rattle.settle.specs.Finding.{Noted, Lowered, Told, GoesOn, Heard, CalmOr, Comes, Alone};
 
 // The distance of an unreached node.
-const UNREACHED: u32 = 16_777_215;
+use rules::UNREACHED;
 
 const NO_LINK: u16 = 65_535;
 
@@ -204,7 +204,7 @@ pub fn offer_into(
     mins: &mut [u64; 72],
     found: &mut [u16; 256],
 )
-    requires { ⌜ Proper (table nodes root (now starts) (now ends) (now costs)) × Begun (table nodes root (now starts) (now ends) (now costs)) (now dist) (now keys) (now mins) × (length (now first) ≡ mostNodes) × (length (now found) ≡ mostNodes) ⌝ }
+    requires { ⌜ Proper (table nodes root (now starts) (now ends) (now costs)) × Seeded (table nodes root (now starts) (now ends) (now costs)) (now dist) (now keys) (now mins) × (length (now first) ≡ mostNodes) × (length (now found) ≡ mostNodes) ⌝ }
     ensures { λ _. ⌜ Heard (table nodes root (now (starts .entry)) (now (ends .entry)) (now (costs .entry))) (Calm (table nodes root (now (starts .entry)) (now (ends .entry)) (now (costs .entry))) (now (dist .entry)) (now (keys .entry))) (now (dist .entry)) (now (keys .entry)) (now (found .entry)) (CalmOr (table nodes root (now (starts .entry)) (now (ends .entry)) (now (costs .entry))) (now (dist .entry)) (now (keys .entry)) lifted (now (first .entry))) (now (dist .exit)) (now (keys .exit)) (now (mins .exit)) (now (found .exit)) ⌝ }
 {
     if !lifted {

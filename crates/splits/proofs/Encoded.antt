@@ -14,7 +14,7 @@ use Rattle.stream.specs.declared.Read.{Read}
 use Rattle.stream.specs.Records.{numberAt, stands, readAt, isRecord}
 use Rattle.splits.specs.Splitting.{Splits, stops, reads}
 use Rattle.splits.specs.Encoding.{encodeNumbers, encode, encodeAll, Narrow, WellFormed, AllWellFormed, none, more, AreBytes}
-use Rattle.splits.proofs.Stands.{Stands, at-end, unknown, cut, a-network, a-link, a-change, an-apply, an-ask, first, second, standing, stands-only}
+use Rattle.splits.proofs.Stands.{StandsStill, at-end, unknown, cut, a-network, a-link, a-change, an-apply, an-ask, first, second, standing, stands-only}
 use Rattle.splits.proofs.Splits.{both, stands-still, stopped, only-at-end}
 
 -- ---- encoding what was read gives the bytes read
@@ -41,7 +41,7 @@ module _ (stream : List ℕ) where
         ∙ number-more (place + 3) (place + 1 + 4) rest (omega arith) l
 
     -- the bytes before a record, and those of the record, are the bytes before the next
-    record-more : {place : ℕ} {read : Read} (rest : List ℕ) → Stands stream place read → isRecord (read .item) ≡ true
+    record-more : {place : ℕ} {read : Read} (rest : List ℕ) → StandsStill stream place read → isRecord (read .item) ≡ true
         → take place stream ++ (encode (read .item) ++ rest) ≡ take (read .next) stream ++ rest
     record-more rest (at-end l) e = absurd (both e refl)
     record-more rest (unknown l n) e = absurd (both e refl)
@@ -151,7 +151,7 @@ reads-encoded well = reads-behind [] well
 pub number-fits : {stream : List ℕ} → AreBytes stream → (place : ℕ) → numberAt stream place < 65536
 number-fits bytes place = omega (arith, bytes .below place, bytes .below (place + 1))
 
-read-fits : {stream : List ℕ} → AreBytes stream → {place : ℕ} {read : Read} → Stands stream place read → isRecord (read .item) ≡ true
+read-fits : {stream : List ℕ} → AreBytes stream → {place : ℕ} {read : Read} → StandsStill stream place read → isRecord (read .item) ≡ true
     → WellFormed (read .item)
 read-fits bytes (at-end l) e = absurd (both e refl)
 read-fits bytes (unknown l n) e = absurd (both e refl)

@@ -10,7 +10,7 @@ use Rattle.stream.specs.declared.Item.the-variants.{End}
 use Rattle.stream.specs.declared.Read.{Read}
 use Rattle.stream.specs.Records.{readAt, isRecord}
 use Rattle.splits.specs.Splitting.{Splits, stops, reads, Split, followed, splitFrom, split}
-use Rattle.splits.proofs.Stands.{Stands, at-end, unknown, cut, a-network, a-link, a-change, an-apply, an-ask, standing, stands-only}
+use Rattle.splits.proofs.Stands.{StandsStill, at-end, unknown, cut, a-network, a-link, a-change, an-apply, an-ask, standing, stands-only}
 
 -- no test both passes and fails
 pub both : {b : Bool} → b ≡ true → b ≡ false → ⊥
@@ -31,7 +31,7 @@ pub record Moves (stream : List ℕ) (place next : ℕ) : Type 0 where
   pub on : place < next
   pub within : next ≤ length stream
 
-pub moves : {stream : List ℕ} {place : ℕ} {read : Read} → Stands stream place read → isRecord (read .item) ≡ true → Moves stream place (read .next)
+pub moves : {stream : List ℕ} {place : ℕ} {read : Read} → StandsStill stream place read → isRecord (read .item) ≡ true → Moves stream place (read .next)
 moves (at-end l) e = absurd (both e refl)
 moves (unknown l n) e = absurd (both e refl)
 moves (cut l k s) e = absurd (both e refl)
@@ -42,7 +42,7 @@ moves (an-apply k l) e = record { on = omega arith; within = l }
 moves (an-ask k l) e = record { on = omega arith; within = l }
 
 -- what is no record leaves the place as it is
-pub stands-still : {stream : List ℕ} {place : ℕ} {read : Read} → Stands stream place read → isRecord (read .item) ≡ false → read .next ≡ place
+pub stands-still : {stream : List ℕ} {place : ℕ} {read : Read} → StandsStill stream place read → isRecord (read .item) ≡ false → read .next ≡ place
 stands-still (at-end l) e = refl
 stands-still (unknown l n) e = refl
 stands-still (cut l k s) e = refl
@@ -53,17 +53,17 @@ stands-still (an-apply k l) e = absurd (both refl e)
 stands-still (an-ask k l) e = absurd (both refl e)
 
 -- what reading stops at stands at its place
-pub stopped : {stream : List ℕ} {place : ℕ} {records : List Item} {stop : Read} → Splits stream place records stop → Stands stream (stop .next) stop
+pub stopped : {stream : List ℕ} {place : ℕ} {records : List Item} {stop : Read} → Splits stream place records stop → StandsStill stream (stop .next) stop
 stopped {stream} {place} (stops e) =
     let here = standing stream place in
-    subst (λ (p : ℕ). Stands stream p (readAt stream place)) (sym (stands-still here e)) here
+    subst (λ (p : ℕ). StandsStill stream p (readAt stream place)) (sym (stands-still here e)) here
 stopped (reads e onward) = stopped onward
 
 unlike : {A : Type 0} → _≡_ {A = ℕ} 0 1 → A
 unlike e = absurd (omega arith)
 
 -- the end stands at or past the end alone
-pub only-at-end : {stream : List ℕ} {place : ℕ} {read : Read} → Stands stream place read → read .item ≡ End → length stream ≤ place
+pub only-at-end : {stream : List ℕ} {place : ℕ} {read : Read} → StandsStill stream place read → read .item ≡ End → length stream ≤ place
 only-at-end (at-end l) e = l
 only-at-end (unknown l n) e = unlike (cc)
 only-at-end (cut l k s) e = unlike (cc)

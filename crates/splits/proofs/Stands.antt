@@ -49,19 +49,19 @@ module _ (stream : List ℕ) (place : ℕ) where
   third = numberAt stream (place + 5)
 
   -- a record or a refusal stands here when, and only when, its line says so
-  pub data Stands : Read → Type 0 where
-    at-end : length stream ≤ place → Stands (record { item = End; next = place })
-    unknown : place < length stream → NoKind kindAt → Stands (record { item = UnknownKind place; next = place })
+  pub data StandsStill : Read → Type 0 where
+    at-end : length stream ≤ place → StandsStill (record { item = End; next = place })
+    unknown : place < length stream → NoKind kindAt → StandsStill (record { item = UnknownKind place; next = place })
     cut : {n : ℕ} → place < length stream → bodyLength kindAt ≡ Bytes n → length stream < place + 1 + n
-        → Stands (record { item = CutShort place; next = place })
-    a-network : kindAt ≡ 1 → place + 1 + 4 ≤ length stream → Stands (record { item = Network first second; next = place + 1 + 4 })
-    a-link : kindAt ≡ 2 → place + 1 + 6 ≤ length stream → Stands (record { item = Link first second third; next = place + 1 + 6 })
-    a-change : kindAt ≡ 3 → place + 1 + 4 ≤ length stream → Stands (record { item = Change first second; next = place + 1 + 4 })
-    an-apply : kindAt ≡ 4 → place + 1 + 0 ≤ length stream → Stands (record { item = Apply; next = place + 1 + 0 })
-    an-ask : kindAt ≡ 5 → place + 1 + 2 ≤ length stream → Stands (record { item = Ask first; next = place + 1 + 2 })
+        → StandsStill (record { item = CutShort place; next = place })
+    a-network : kindAt ≡ 1 → place + 1 + 4 ≤ length stream → StandsStill (record { item = Network first second; next = place + 1 + 4 })
+    a-link : kindAt ≡ 2 → place + 1 + 6 ≤ length stream → StandsStill (record { item = Link first second third; next = place + 1 + 6 })
+    a-change : kindAt ≡ 3 → place + 1 + 4 ≤ length stream → StandsStill (record { item = Change first second; next = place + 1 + 4 })
+    an-apply : kindAt ≡ 4 → place + 1 + 0 ≤ length stream → StandsStill (record { item = Apply; next = place + 1 + 0 })
+    an-ask : kindAt ≡ 5 → place + 1 + 2 ≤ length stream → StandsStill (record { item = Ask first; next = place + 1 + 2 })
 
   -- the reader gives nothing else
-  pub stands-only : {read : Read} → Stands read → read ≡ readAt stream place
+  pub stands-only : {read : Read} → StandsStill read → read ≡ readAt stream place
   stands-only (at-end l) = reads-end stream place l
   stands-only (unknown l none) = reads-unknown stream place l (sym (no-length none))
   stands-only (cut l known short) = reads-cut stream place l known short
@@ -71,19 +71,19 @@ module _ (stream : List ℕ) (place : ℕ) where
   stands-only (an-apply e l) = rw e at (reads-record stream place (omega arith) (ap bodyLength e) l)
   stands-only (an-ask e l) = rw e at (reads-record stream place (omega arith) (ap bodyLength e) l)
 
-  there : {read : Read} → Stands read → Stands (readAt stream place)
-  there s = subst Stands (stands-only s) s
+  there : {read : Read} → StandsStill read → StandsStill (readAt stream place)
+  there s = subst StandsStill (stands-only s) s
 
   -- of a known kind: the body is whole, or it is cut short
   of-length : place < length stream → {n : ℕ} → bodyLength kindAt ≡ Bytes n
-      → {read : Read} → (place + 1 + n ≤ length stream → Stands read) → Stands (readAt stream place)
+      → {read : Read} → (place + 1 + n ≤ length stream → StandsStill read) → StandsStill (readAt stream place)
   of-length l {n} known {read} whole = at (decLe (place + 1 + n) (length stream))
     where
-      at : Dec (place + 1 + n ≤ length stream) → Stands (readAt stream place)
+      at : Dec (place + 1 + n ≤ length stream) → StandsStill (readAt stream place)
       at (yes fits) = there (whole fits)
       at (no short) = there (cut l known (omega arith))
 
-  of-kind : place < length stream → Kind kindAt → Stands (readAt stream place)
+  of-kind : place < length stream → Kind kindAt → StandsStill (readAt stream place)
   of-kind l (is-network e) = of-length l (ap bodyLength e) (a-network e)
   of-kind l (is-link e) = of-length l (ap bodyLength e) (a-link e)
   of-kind l (is-change e) = of-length l (ap bodyLength e) (a-change e)
@@ -91,9 +91,9 @@ module _ (stream : List ℕ) (place : ℕ) where
   of-kind l (is-ask e) = of-length l (ap bodyLength e) (an-ask e)
   of-kind l (is-none none) = there (unknown l none)
 
-  pub standing : Stands (readAt stream place)
+  pub standing : StandsStill (readAt stream place)
   standing = at (decLe (length stream) place)
     where
-      at : Dec (length stream ≤ place) → Stands (readAt stream place)
+      at : Dec (length stream ≤ place) → StandsStill (readAt stream place)
       at (yes l) = there (at-end l)
       at (no l) = of-kind (omega arith) (kind kindAt)

@@ -1,10 +1,9 @@
 -- What is kept between records, and what becomes of it. Assumes nothing.
-use mathlib.Core.Bool.{Bool, true, false, not, _&&_}
+use mathlib.Core.Bool.{Bool, true, false, not, _&&_, cond}
 use mathlib.Core.List.{List}
 use Prim.Native.Nat.{ℕ, _+_}
 use lib.Dec.{leb}
 use lib.ListN.{take}
-use Rattle.rules.specs.Tests.{pick}
 use Rattle.rules.specs.Columns.{Table, table, rowsOf, emptyTree}
 use Rattle.rules.specs.Refusals.{Verdict, accepted, refused}
 use Rattle.rules.specs.declared.Change.{Change}
@@ -13,7 +12,7 @@ use Rattle.stream.specs.declared.Item.{Item}
 use Rattle.stream.specs.Records.{isRecord}
 use Rattle.order.specs.declared.Phase.the-variants.{Unread, Linking, Routing}
 use Rattle.tree.specs.declared.Tree.{Tree}
-use Rattle.tree.specs.Value.{valueOf}
+use Rattle.tree.specs.Value.{arraysOf}
 use Rattle.state.specs.declared.Out.{Out}
 use Rattle.state.specs.declared.Out.the-variants.{Nothing, Row, Changed, Refused}
 use Rattle.state.specs.declared.State.{State}
@@ -79,8 +78,8 @@ applied s tree count =
 -- ASK: the node's row in the tree that stands
 abbrev pub asked : State → ℕ → Out
 asked s node =
-    pick (leb (s .nodes) node) (Refused 10)
-    (Row node (rowsOf (valueOf (s .tree)) .dist node) (rowsOf (valueOf (s .tree)) .parent node) (rowsOf (valueOf (s .tree)) .first node))
+    cond (leb (s .nodes) node) (Refused 10)
+    (Row node (rowsOf (arraysOf (s .tree)) .dist node) (rowsOf (arraysOf (s .tree)) .parent node) (rowsOf (arraysOf (s .tree)) .first node))
 
 abbrev pub isRefusal : Out → Bool
 isRefusal Nothing = false

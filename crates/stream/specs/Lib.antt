@@ -1,2 +1,2 @@
--- What 01-scope.md says of the record stream, as definitions. Theorems about whole streams stand in the crate `splits`.
+-- What the scope says of the record stream, as definitions. Theorems about whole streams stand in the crate `splits`.
 pub mod Records

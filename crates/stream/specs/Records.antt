@@ -1,8 +1,8 @@
--- The record stream, as 01-scope.md says it: one byte of kind, then a body whose length the kind fixes. A stream is
+-- The record stream, as the scope says it: one byte of kind, then a body whose length the kind fixes. A stream is
 -- the list of its bytes. Assumes nothing.
 use Prim.Native.Nat.{ℕ, _+_, _*_}
 use mathlib.Core.List.{List, [], _∷_}
-use mathlib.Core.Bool.{Bool, true, false}
+use mathlib.Core.Bool.{Bool, true, false, cond}
 use lib.Dec.{eqb, leb}
 use lib.ListN.{length, getD}
 use Rattle.stream.specs.declared.Body.{Body}
@@ -11,18 +11,14 @@ use Rattle.stream.specs.declared.Item.{Item}
 use Rattle.stream.specs.declared.Item.the-variants.{Network, Link, Change, Apply, Ask, End, UnknownKind, CutShort}
 use Rattle.stream.specs.declared.Read.{Read}
 
-abbrev pub pick : {A : Type 0} → Bool → A → A → A
-pick true a b = a
-pick false a b = b
-
 -- the length of a kind's body
 abbrev pub bodyLength : ℕ → Body
 bodyLength kind =
-    pick (eqb kind 1) (Bytes 4)
-    (pick (eqb kind 2) (Bytes 6)
-    (pick (eqb kind 3) (Bytes 4)
-    (pick (eqb kind 4) (Bytes 0)
-    (pick (eqb kind 5) (Bytes 2) Unknown))))
+    cond (eqb kind 1) (Bytes 4)
+    (cond (eqb kind 2) (Bytes 6)
+    (cond (eqb kind 3) (Bytes 4)
+    (cond (eqb kind 4) (Bytes 0)
+    (cond (eqb kind 5) (Bytes 2) Unknown))))
 
 abbrev pub bytesIn : Body → ℕ
 bytesIn (Bytes n) = n
@@ -35,11 +31,11 @@ numberAt stream place = getD stream place 0 * 256 + getD stream (place + 1) 0
 -- the record of a kind, its kind byte at a place
 abbrev pub recordAt : ℕ → List ℕ → ℕ → Item
 recordAt kind stream place =
-    pick (eqb kind 1) (Network (numberAt stream (place + 1)) (numberAt stream (place + 3)))
-    (pick (eqb kind 2) (Link (numberAt stream (place + 1)) (numberAt stream (place + 3)) (numberAt stream (place + 5)))
-    (pick (eqb kind 3) (Change (numberAt stream (place + 1)) (numberAt stream (place + 3)))
-    (pick (eqb kind 4) Apply
-    (pick (eqb kind 5) (Ask (numberAt stream (place + 1))) (UnknownKind place)))))
+    cond (eqb kind 1) (Network (numberAt stream (place + 1)) (numberAt stream (place + 3)))
+    (cond (eqb kind 2) (Link (numberAt stream (place + 1)) (numberAt stream (place + 3)) (numberAt stream (place + 5)))
+    (cond (eqb kind 3) (Change (numberAt stream (place + 1)) (numberAt stream (place + 3)))
+    (cond (eqb kind 4) Apply
+    (cond (eqb kind 5) (Ask (numberAt stream (place + 1))) (UnknownKind place)))))
 
 -- the place stands still
 abbrev pub stands : Item → ℕ → Read
@@ -49,13 +45,13 @@ stands item place = record { item = item; next = place }
 abbrev pub readBody : Body → List ℕ → ℕ → Read
 readBody Unknown stream place = stands (UnknownKind place) place
 readBody (Bytes n) stream place =
-    pick (leb (place + 1 + n) (length stream))
+    cond (leb (place + 1 + n) (length stream))
     (record { item = recordAt (getD stream place 0) stream place; next = place + 1 + n })
     (stands (CutShort place) place)
 
 -- what the reader gives at a place: at or past the end, the end
 unfoldable pub readAt : List ℕ → ℕ → Read
-readAt stream place = pick (leb (length stream) place) (stands End place) (readBody (bodyLength (getD stream place 0)) stream place)
+readAt stream place = cond (leb (length stream) place) (stands End place) (readBody (bodyLength (getD stream place 0)) stream place)
 
 -- ---- what each case of the code's items means in 01
 

@@ -9,11 +9,11 @@ use lib.Dec.{ltb}
 use lib.ListN.{length, getD, set, take}
 use lib.Seq.{length-take-le, getD-take, getD-set-other}
 use borrow.Author.Tests.{lt-ltb}
-use Rattle.rules.specs.Tree.{Fits}
-use Rattle.rules.specs.Columns.{Table, Tree, Proper, Whole, netOf, rowsOf, emptyTree, applied, after, unreached}
+use Rattle.rules.specs.Fit.{Fits}
+use Rattle.rules.specs.Columns.{Table, Arrays, Proper, Whole, netOf, rowsOf, emptyTree, applied, after, unreached}
 use Rattle.rules.specs.Refusals.{Verdict, accepted, refused, when, judgeLinks, judgeTree, judgeBatch, judgeUpdate, judgeAsked, linkAt}
 use Rattle.rules.specs.Jobs.{changedBelow, Built, built, not-built, Updated, updated, not-updated, Pathed, not-pathed}
-use Rattle.rules.specs.Demands.{Narrow}
+use Rattle.rules.specs.Demands.{SixteenBit}
 use Rattle.rules.specs.declared.Change.{Change}
 use Rattle.rules.proofs.Sound.{fits-shortest, root-zero, walk-node}
 use Rattle.rules.proofs.Judged.{legal, links-proper, tree-accepted, not-refused, then-first, then-second}
@@ -23,7 +23,7 @@ use Rattle.judge.proofs.Laws.{refusal}
 use Rattle.batch.specs.Rows.{rowsOfColumns, Named}
 use Rattle.batch.proofs.Laws.{links-fewer, costs-fewer, row-at}
 use Rattle.batch.proofs.Batches.{rows-named}
-use Rattle.changed.specs.Listed.{Listed}
+use Rattle.changed.specs.Listed.{ListedBelow}
 use Rattle.path.specs.Climb.{Traces}
 use Rattle.path.specs.declared.Traced.{Traced}
 use Rattle.path.specs.declared.Traced.the-variants.{Written, TooShort}
@@ -33,7 +33,7 @@ use Rattle.grow.specs.Grown.{Grown, Old, Fitted, Regrown}
 -- ---- fresh build
 
 module _ {t : Table} {v : Verdict} (is : v ≡ judgeLinks t) where
-  pub build-refused : (v ≡ accepted → ⊥) → {tree : Tree} → tree ≡ emptyTree → Built t v tree
+  pub build-refused : (v ≡ accepted → ⊥) → {tree : Arrays} → tree ≡ emptyTree → Built t v tree
   build-refused n {tree} e =
       let r = refusal v n in
       rw (e, r .is) (not-built (sym is ∙ r .is))
@@ -41,7 +41,7 @@ module _ {t : Table} {v : Verdict} (is : v ≡ judgeLinks t) where
   pub build-proper : v ≡ accepted → Proper t
   build-proper a = links-proper t (sym is ∙ a)
 
-  pub build-accepted : v ≡ accepted → {tree : Tree} → Grown t tree → Built t v tree
+  pub build-accepted : v ≡ accepted → {tree : Arrays} → Grown t tree → Built t v tree
   build-accepted a g = rw a (built (sym is ∙ a) (g .whole) (g .fresh))
 
 -- ---- an accepted update
@@ -63,7 +63,7 @@ applied-other (row ∷ rows) costs k apart =
     applied-other rows (set costs (row .link) (row .cost)) k (λ m l. apart (suc m) (omega arith))
     ∙ getD-set-other costs (row .link) k (row .cost) 0 (λ e. apart 0 (omega arith) (sym e))
 
-module _ (t : Table) (old : Tree) (batch : List Change) (list : List ℕ) (e : judgeUpdate t old batch list ≡ accepted) where
+module _ (t : Table) (old : Arrays) (batch : List Change) (list : List ℕ) (e : judgeUpdate t old batch list ≡ accepted) where
   pub update-proper : Proper t
   update-proper = tree-links t old (update-links t old batch list e)
 
@@ -87,7 +87,7 @@ module _ (t : Table) (old : Tree) (batch : List Change) (list : List ℕ) (e : j
       at (no l) = omega arith
 
   -- the old tree is one to regrow from, over the new costs
-  update-old : Whole old → Narrow (t .costs) → Old (after t batch) old
+  update-old : Whole old → SixteenBit (t .costs) → Old (after t batch) old
   update-old w c =
       let fine = tree-accepted t old w (update-links t old batch list e) in
       let short = fits-shortest (legal (fine .0)) (fine .1) in
@@ -102,7 +102,7 @@ module _ (t : Table) (old : Tree) (batch : List Change) (list : List ℕ) (e : j
           at (no q) (no l) = absurd (omega (arith, walk-node (legal (fine .0)) (fits-shortest (legal (fine .0)) (fine .1) .least v q .walk)))
 
   -- and it fitted while the rows' links had other costs
-  pub update-fitted : (changed newcosts : List ℕ) → batch ≡ rowsOfColumns changed newcosts → Whole old → Narrow (t .costs)
+  pub update-fitted : (changed newcosts : List ℕ) → batch ≡ rowsOfColumns changed newcosts → Whole old → SixteenBit (t .costs)
       → Fitted (after t batch) (take (length batch) changed) old
   update-fitted changed newcosts is w c =
       record {
@@ -122,24 +122,24 @@ module _ (t : Table) (old : Tree) (batch : List Change) (list : List ℕ) (e : j
       link-at : (m : ℕ) → m < length batch → getD (take (length batch) changed) m 0 ≡ linkAt batch m
       link-at m l = getD-take (length batch) changed m 0 l ∙ rw is (sym (row-at changed newcosts m (rw is at l) .link))
 
-  pub update-updated : {new : Tree} {costs listed : List ℕ} {count : ℕ} {v : Verdict} → v ≡ accepted → Regrown (after t batch) (old .parent) new
-      → costs ≡ applied batch (t .costs) → Listed old new (t .nodes) list listed count → Updated t old batch list v new costs listed count
+  pub update-updated : {new : Arrays} {costs listed : List ℕ} {count : ℕ} {v : Verdict} → v ≡ accepted → Regrown (after t batch) (old .parent) new
+      → costs ≡ applied batch (t .costs) → ListedBelow old new (t .nodes) list listed count → Updated t old batch list v new costs listed count
   update-updated {new} a g c l =
       rw (a, c, l .front, l .counted) (updated (changedBelow (rowsOf old) (rowsOf new) (t .nodes)) e (g .whole) (g .next) refl)
 
-pub update-refused : {t : Table} {old : Tree} {batch : List Change} {list : List ℕ} {v : Verdict} → v ≡ judgeUpdate t old batch list → (v ≡ accepted → ⊥)
+pub update-refused : {t : Table} {old : Arrays} {batch : List Change} {list : List ℕ} {v : Verdict} → v ≡ judgeUpdate t old batch list → (v ≡ accepted → ⊥)
     → Updated t old batch list v old (t .costs) list 0
 update-refused {v = v} is n =
     let r = refusal v n in
     rw (r .is) (not-updated (sym is ∙ r .is))
 
-pub path-refused : {t : Table} {tree : Tree} {node : ℕ} {list : List ℕ} {v : Verdict} → v ≡ judgeAsked t tree node → (v ≡ accepted → ⊥)
+pub path-refused : {t : Table} {tree : Arrays} {node : ℕ} {list : List ℕ} {v : Verdict} → v ≡ judgeAsked t tree node → (v ≡ accepted → ⊥)
     → Pathed t tree node list v list 0
 path-refused {v = v} is n =
     let r = refusal v n in
     rw (r .is) (not-pathed (sym is ∙ r .is))
 
-module _ (t : Table) (tree : Tree) (node : ℕ) (w : Whole tree) (e : judgeAsked t tree node ≡ accepted) {list exit : List ℕ} {r : Traced} (h : Traces (parentsOf t tree) node list r exit) where
+module _ (t : Table) (tree : Arrays) (node : ℕ) (w : Whole tree) (e : judgeAsked t tree node ≡ accepted) {list exit : List ℕ} {r : Traced} (h : Traces (parentsOf t tree) node list r exit) where
   pub path-told : {n : ℕ} → r ≡ Written n → {v : Verdict} → v ≡ accepted → Pathed t tree node list v exit n
   path-told {n} is a = rw a (rw is at (traces-pathed t tree node w e h))
 

@@ -6,13 +6,14 @@ ghost use Rattle.rules.specs.Columns.{Proper, table, emptyTree};
 ghost use Rattle.rules.specs.Refusals.{judgeTree};
 ghost use Rattle.rules.specs.Jobs.{Built, Updated, Pathed};
 ghost use Rattle.batch.specs.Rows.{rowsOfColumns};
-ghost use Rattle.gather.specs.Gathering.{mostRead, rowsOf};
+ghost use Rattle.gather.specs.Gathering.{mostRead, batchOf};
 ghost use Rattle.grow.specs.Grown.{Grown};
-ghost use Rattle.tree.specs.Value.{valueOf, withRow};
+ghost use Rattle.tree.specs.Value.{arraysOf, withRow};
 use gather::Rows;
 use path::Traced;
 use rules::Answer;
 use rules::Change;
+use rules::UNREACHED;
 
 // For each of 256 nodes a distance, a parent link and a first link. Any numbers may stand in it: every job judges it.
 pub struct Tree {
@@ -43,7 +44,7 @@ pub struct PathTold {
 // A tree grown over a table that was accepted.
 fn grown(nodes: usize, root: usize, starts: &[u16], ends: &[u16], costs: &[u16]) -> Tree
     requires { ⌜ Proper (table nodes root (now starts) (now ends) (now costs)) ⌝ }
-    ensures { λ r. ⌜ Grown (table nodes root (now (starts .entry)) (now (ends .entry)) (now (costs .entry))) (valueOf r) ⌝ }
+    ensures { λ r. ⌜ Grown (table nodes root (now (starts .entry)) (now (ends .entry)) (now (costs .entry))) (arraysOf r) ⌝ }
 {
     let mut dist = [0u32; 256];
     let mut parent = [0u16; 256];
@@ -68,10 +69,10 @@ fn grown(nodes: usize, root: usize, starts: &[u16], ends: &[u16], costs: &[u16])
 impl Tree {
     // Every node unreached, and no links.
     pub fn empty() -> Tree
-        ensures { λ r. ⌜ valueOf r ≡ emptyTree ⌝ }
+        ensures { λ r. ⌜ arraysOf r ≡ emptyTree ⌝ }
     {
         Tree {
-            dist: [16_777_215; 256],
+            dist: [UNREACHED; 256],
             parent: [65_535; 256],
             first: [65_535; 256],
         }
@@ -79,7 +80,7 @@ impl Tree {
 
     // The tree with one node's row set; a node that the tree has no row for changes nothing.
     pub fn set_row(mut self, node: usize, dist: u32, parent: u16, first: u16) -> Tree
-        ensures { λ r. ⌜ valueOf r ≡ withRow (valueOf self) node dist parent first ⌝ }
+        ensures { λ r. ⌜ arraysOf r ≡ withRow (arraysOf self) node dist parent first ⌝ }
     {
         if node < 256 {
             self.dist[node] = dist;
@@ -98,7 +99,7 @@ impl Tree {
         ends: &[u16],
         costs: &[u16],
     ) -> Answer
-        ensures { λ r. ⌜ told r ≡ judgeTree (table nodes root (now (starts .entry)) (now (ends .entry)) (now (costs .entry))) (valueOf self) ⌝ }
+        ensures { λ r. ⌜ told r ≡ judgeTree (table nodes root (now (starts .entry)) (now (ends .entry)) (now (costs .entry))) (arraysOf self) ⌝ }
     {
         fit::judge_rows(
             nodes,
@@ -120,7 +121,7 @@ impl Tree {
         ends: &[u16],
         costs: &[u16],
     ) -> FreshTree
-        ensures { λ r. ⌜ Built (table nodes root (now (starts .entry)) (now (ends .entry)) (now (costs .entry))) (told (r .answer)) (valueOf (r .tree)) ⌝ }
+        ensures { λ r. ⌜ Built (table nodes root (now (starts .entry)) (now (ends .entry)) (now (costs .entry))) (told (r .answer)) (arraysOf (r .tree)) ⌝ }
     {
         let answer = links::judge_links(nodes, root, starts, ends, costs);
         if rules::number(answer) != 0 {
@@ -147,7 +148,7 @@ impl Tree {
         batch: &[Change],
         list: &mut [u16],
     ) -> NextTree
-        ensures { λ r. ⌜ Updated (table nodes root (now (starts .entry)) (now (ends .entry)) (now (costs .entry))) (valueOf self) (now (batch .entry)) (now (list .entry)) (told (r .answer)) (valueOf (r .tree)) (now (costs .exit)) (now (list .exit)) (r .count) ⌝ }
+        ensures { λ r. ⌜ Updated (table nodes root (now (starts .entry)) (now (ends .entry)) (now (costs .entry))) (arraysOf self) (now (batch .entry)) (now (list .entry)) (told (r .answer)) (arraysOf (r .tree)) (now (costs .exit)) (now (list .exit)) (r .count) ⌝ }
     {
         let rows = gather::gather(batch);
         self.update_rows(nodes, root, starts, ends, costs, rows, list)
@@ -165,7 +166,7 @@ impl Tree {
         list: &mut [u16],
     ) -> NextTree
         requires { ⌜ rows .count ≤ mostRead ⌝ }
-        ensures { λ r. ⌜ Updated (table nodes root (now (starts .entry)) (now (ends .entry)) (now (costs .entry))) (valueOf self) (rowsOf rows) (now (list .entry)) (told (r .answer)) (valueOf (r .tree)) (now (costs .exit)) (now (list .exit)) (r .count) ⌝ }
+        ensures { λ r. ⌜ Updated (table nodes root (now (starts .entry)) (now (ends .entry)) (now (costs .entry))) (arraysOf self) (batchOf rows) (now (list .entry)) (told (r .answer)) (arraysOf (r .tree)) (now (costs .exit)) (now (list .exit)) (r .count) ⌝ }
     {
         let changed = rows.link;
         let newcosts = rows.cost;
@@ -194,7 +195,7 @@ impl Tree {
         newcosts: &[u16],
         list: &mut [u16],
     ) -> NextTree
-        ensures { λ r. ⌜ Updated (table nodes root (now (starts .entry)) (now (ends .entry)) (now (costs .entry))) (valueOf self) (rowsOfColumns (now (changed .entry)) (now (newcosts .entry))) (now (list .entry)) (told (r .answer)) (valueOf (r .tree)) (now (costs .exit)) (now (list .exit)) (r .count) ⌝ }
+        ensures { λ r. ⌜ Updated (table nodes root (now (starts .entry)) (now (ends .entry)) (now (costs .entry))) (arraysOf self) (rowsOfColumns (now (changed .entry)) (now (newcosts .entry))) (now (list .entry)) (told (r .answer)) (arraysOf (r .tree)) (now (costs .exit)) (now (list .exit)) (r .count) ⌝ }
     {
         let mut dist = self.dist;
         let mut parent = self.parent;
@@ -263,7 +264,7 @@ impl Tree {
         node: usize,
         list: &mut [u16],
     ) -> PathTold
-        ensures { λ r. ⌜ Pathed (table nodes root (now (starts .entry)) (now (ends .entry)) (now (costs .entry))) (valueOf self) node (now (list .entry)) (told (r .answer)) (now (list .exit)) (r .count) ⌝ }
+        ensures { λ r. ⌜ Pathed (table nodes root (now (starts .entry)) (now (ends .entry)) (now (costs .entry))) (arraysOf self) node (now (list .entry)) (told (r .answer)) (now (list .exit)) (r .count) ⌝ }
     {
         let answer = judge::judge_asked(
             nodes,

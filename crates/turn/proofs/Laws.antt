@@ -1,17 +1,16 @@
 -- What a record's line asks of the list, and the two ways of a turn. Assumes nothing.
 use mathlib.Core.Path.{_≡_, refl, ap}
-use mathlib.Core.Bool.{Bool, true, false}
+use mathlib.Core.Bool.{Bool, true, false, cond}
 use mathlib.Core.List.{List, []}
 use Prim.Native.Nat.{ℕ, _≤_, _<_}
 use native.Mathlib.Omega.{arith}
 use lib.Dec.{leb}
 use lib.ListN.{length, drop, length-append}
-use Rattle.rules.specs.Tests.{pick}
 use Rattle.rules.specs.Jobs.{written, changedBelow}
 use Rattle.rules.specs.Refusals.{Verdict, accepted, refused, judgeLinks}
 use Rattle.rules.specs.Columns.{table, rowsOf}
 use Rattle.rules.proofs.Accepted.{update-accept}
-use Rattle.tree.specs.Value.{valueOf}
+use Rattle.tree.specs.Value.{arraysOf}
 use Rattle.stream.specs.declared.Item.{Item}
 use Rattle.stream.specs.declared.Read.{Read}
 use Rattle.stream.specs.Records.{readAt}
@@ -40,7 +39,7 @@ change-none : (v : Verdict) (s : State) (n : ℕ) → entriesIn (changing v s .o
 change-none accepted s n = omega arith
 change-none (refused number value) s n = omega arith
 
-ask-none : (past : Bool) (node dist parent first n : ℕ) → entriesIn (pick past (Refused 10) (Row node dist parent first)) ≤ n
+ask-none : (past : Bool) (node dist parent first n : ℕ) → entriesIn (cond past (Refused 10) (Row node dist parent first)) ≤ n
 ask-none true node dist parent first n = omega arith
 ask-none false node dist parent first n = omega arith
 
@@ -51,7 +50,7 @@ applied-fits : {s : State} {starts ends costs changed newcosts list : List ℕ} 
     → Applied s starts ends costs changed newcosts list done costs' list' → entriesIn (done .out) ≤ length list'
 applied-fits {s} {list = list} {done} {list' = list'} a =
     let up = update-accept (a .updated) refl in
-    let told = changedBelow (rowsOf (valueOf (s .tree))) (rowsOf (valueOf (done .state .tree))) (s .nodes) in
+    let told = changedBelow (rowsOf (arraysOf (s .tree))) (rowsOf (arraysOf (done .state .tree))) (s .nodes) in
     rw (ap (λ (x : Done). x .out) (a .kept)) (front-fits told list list' (a .count) (up .listed) (up .count))
 
 entries-listed : {s : State} {k : Lists} {item : Item} {done : Done} {after : Lists} → Steps s k item done after
@@ -65,7 +64,7 @@ entries-listed {s} {k} (link {start} {end} {cost} e) = link-none (linkVerdict s 
 entries-listed {s} {k} (change {link = named} {cost} {r} ready) = change-none (changeVerdict r k named cost) r _
 entries-listed (apply r a) = applied-fits a
 entries-listed (ask {node} {r} ready) =
-    let rows = rowsOf (valueOf (r .tree)) in
+    let rows = rowsOf (arraysOf (r .tree)) in
     ask-none (leb (r .nodes) node) node (rows .dist node) (rows .parent node) (rows .first node) _
 
 -- what the line of a record asks of the list

@@ -1,13 +1,12 @@
 -- Turn after turn: what they told stands at the front of the text, and what is left to read falls. Assumes nothing.
 use mathlib.Core.Path.{_≡_, refl, sym, ap, _∙_}
-use mathlib.Core.Bool.{Bool, true, false}
+use mathlib.Core.Bool.{Bool, true, false, cond}
 use mathlib.Core.List.{List, [], _++_}
 use Prim.Native.Nat.{ℕ, suc, _+_, _-_, _≤_, _<_}
 use native.Mathlib.Omega.{arith}
 use borrow.Author.Tests.{leb-false}
 use lib.Dec.{leb}
 use lib.ListN.{length}
-use Rattle.rules.specs.Tests.{pick}
 use Rattle.splits.proofs.Splits.{Moves, both}
 use Rattle.state.specs.declared.State.{State}
 use Rattle.session.specs.Holding.{Lists, Holds}
@@ -107,7 +106,7 @@ module _ {stream : List ℕ} {place : ℕ} {s : State} {k : Lists} {before : Lis
 
 -- what is left to read, 0 where there is no more
 abbrev pub left : List ℕ → ℕ → Bool → ℕ
-left stream place goes = pick goes (length stream - place + 1) 0
+left stream place goes = cond goes (length stream - place + 1) 0
 
 left-falls : {stream : List ℕ} {place next : ℕ} (goes : Bool) → (goes ≡ true → Moves stream place next) → left stream next goes < left stream place true
 left-falls true moves = let on = moves refl in omega arith

@@ -5,7 +5,7 @@ use denote.Ref.{RefT}
 use denote.Triple.Both.{Both}
 use lib.ListN.{getD}
 use Rattle.rules.specs.Net.{Net}
-use Rattle.rules.specs.Tree.{Rows}
+use Rattle.rules.specs.Fit.{Rows}
 use Rattle.rules.specs.Columns.{Table, table, netIn, rowsIn, noLink}
 use Rattle.rules.specs.Lent.{lent, lentTree}
 use Rattle.rules.specs.declared.Profile.{Profile}

@@ -1,6 +1,6 @@
 -- Putting bytes behind bytes, and what decimal text is. Assumes nothing.
 use mathlib.Core.Path.{_≡_, refl, sym, ap, _∙_}
-use mathlib.Core.Bool.{Bool}
+use mathlib.Core.Bool.{Bool, cond}
 use mathlib.Core.List.{List, [], _∷_, _++_, append-assoc}
 use Prim.Native.Nat.{ℕ, zero, suc, _+_, _≤_, _<_, _/_, _%_}
 use native.Mathlib.Omega.{arith}
@@ -10,7 +10,6 @@ use native.Mathlib.Numerals.{add-one}
 use borrow.Author.Tests.{lt-ltb, le-ltb, eq-eqb, ne-eqb}
 use lib.ListN.{length, take, drop, set, length-append, length-drop, take-append-drop}
 use lib.Seq.{set-split, take-at, drop-append-add, drop-drop, length-take-le}
-use Rattle.rules.specs.Tests.{pick}
 use Rattle.rules.specs.Columns.{noLink}
 use Rattle.words.specs.Words.{decimalIn, decimal, digit, dash, linkText}
 use Rattle.words.specs.Putting.{Room, Put}
@@ -104,7 +103,7 @@ one-digit n l = rw (lt-ltb n 10 l) refl
 pub more-digits : (n : ℕ) → 10 ≤ n → decimal n ≡ decimal (n / 10) ++ (digit (n % 10) ∷ [])
 unfolding decimal decimalIn
 more-digits n l =
-    ap (λ (b : Bool). pick b (digit n ∷ []) (decimalIn n (n / 10) ++ (digit (n % 10) ∷ []))) (le-ltb n 10 l)
+    ap (λ (b : Bool). cond b (digit n ∷ []) (decimalIn n (n / 10) ++ (digit (n % 10) ∷ []))) (le-ltb n 10 l)
     ∙ ap (λ (front : List ℕ). front ++ (digit (n % 10) ∷ [])) (enough n (suc (n / 10)) (n / 10) (omega arith) (omega arith))
 
 pub link-none : {link : ℕ} → link ≡ noLink → linkText link ≡ dash ∷ []

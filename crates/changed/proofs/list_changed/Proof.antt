@@ -5,7 +5,7 @@ use native.Mathlib.Omega.{arith}
 use lib.ListN.{length, length-set}
 use borrow.Author.Needs.{needs}
 use Rattle.rules.specs.Columns.{arrays}
-use Rattle.changed.specs.Listed.{Listed}
+use Rattle.changed.specs.Listed.{ListedBelow}
 use Rattle.changed.proofs.Laws.{differs-by, count-few, listed-none, listed-more, listed-same, listed-end}
 use Rattle.changed.proofs.list_changed.Statement.{statement}
 use Rattle.changed.proofs.list_changed.Tie as tie
@@ -15,7 +15,7 @@ use Rattle.changed.proofs.row_differs.Reads as row-differs-reads
 
 abbrev Inv-loop : tie.InvT-loop
 Inv-loop nodes dist parent first new-dist new-parent new-first list₀ count₀ v₀ list count v =
-    (v ≤ nodes) × (length list ≡ length list₀) × Listed (arrays dist parent first) (arrays new-dist new-parent new-first) v list₀ list count
+    (v ≤ nodes) × (length list ≡ length list₀) × ListedBelow (arrays dist parent first) (arrays new-dist new-parent new-first) v list₀ list count
 
 abbrev μ-loop : tie.MeasureT-loop
 μ-loop nodes dist parent first new-dist new-parent new-first list₀ count₀ v₀ list count v = nodes - v

@@ -3,7 +3,7 @@
 use mathlib.Core.Path.{sym, _∙_}
 use native.Mathlib.Omega.{arith}
 use borrow.Author.Needs.{needs}
-use Rattle.rules.specs.Columns.{Table, Tree, table, arrays}
+use Rattle.rules.specs.Columns.{Table, Arrays, table, arrays}
 use Rattle.rules.specs.Answers.{told}
 use Rattle.rules.proofs.OneOutcome.{number-accepts, number-refuses}
 use Rattle.fit.proofs.Smallest.{links-decide, narrow-decides}
@@ -13,7 +13,7 @@ use Rattle.fit.proofs.judge_lent.Tie as tie
 abbrev links-of : tie.Start → Table
 links-of c = table (c .args .nodes) (c .args .root) (c .args .starts .now) (c .args .ends .now) (c .args .costs .now)
 
-abbrev tree-of : tie.Start → Tree
+abbrev tree-of : tie.Start → Arrays
 tree-of c = arrays (c .args .dist .now) (c .args .parent .now) (c .args .first .now)
 
 judge-links-requires : tie.Need-judge-links-requires

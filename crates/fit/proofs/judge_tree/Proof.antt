@@ -3,8 +3,8 @@
 use mathlib.Core.Path.{_∙_}
 use borrow.Author.Needs.{needs}
 use Rattle.rules.specs.Net.{Net}
-use Rattle.rules.specs.Tree.{Rows}
-use Rattle.rules.specs.Columns.{Table, Tree, arrays, netIn, rowsIn}
+use Rattle.rules.specs.Fit.{Rows}
+use Rattle.rules.specs.Columns.{Table, Arrays, arrays, netIn, rowsIn}
 use Rattle.rules.proofs.Judged.{links-proper}
 use Rattle.usable.specs.Standing.{tableAt}
 use Rattle.fit.proofs.Smallest.{row-first, offended-first, tree-decides}
@@ -15,7 +15,7 @@ use Rattle.fit.proofs.judge_tree.Tie as tie
 abbrev links-of : tie.Start → Table
 links-of c = tableAt (c .args .nodes) (c .args .root) (c .args .starts .now) (c .args .ends .now) (c .args .narrow .now) (c .args .wide .now)
 
-abbrev tree-of : tie.Start → Tree
+abbrev tree-of : tie.Start → Arrays
 tree-of c = arrays (c .args .dist .now) (c .args .parent .now) (c .args .first .now)
 
 abbrev net : tie.Start → Net

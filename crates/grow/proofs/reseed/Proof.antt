@@ -4,7 +4,7 @@ use native.Mathlib.Omega.{arith}
 use lib.ListN.{length-replicate}
 use borrow.Author.Needs.{needs}
 use Rattle.rules.specs.Columns.{noLink}
-use Rattle.rules.specs.Demands.{Narrow}
+use Rattle.rules.specs.Demands.{SixteenBit}
 use Rattle.hang.proofs.Whole.{leaving}
 use Rattle.settle.proofs.Offers.{fell-then, partly-fewer}
 use Rattle.settle.proofs.Rounds.{settled}
@@ -44,7 +44,7 @@ returns-2 : tie.Need-returns-2
 returns-2 c =
     let pre = c .before .before .before .before .before .before .before .before .before .before .before .before .before .before .before .before .before .before .before .before .before .before .before .before .before .pre in
     let lifted = c .before .before .before .before .before .before .before .before .before .before .before .before .before .before .before .lift-rows .ensures in
-    let narrow : Narrow (c .before .before .before .before .before .before .before .before .before .before .before .before .before .before .before .before .before .before .before .before .before .before .before .before .before .args .costs .now) = record { narrow = λ k. omega (arith, c .before .before .before .before .before .before .before .before .before .before .before .before .before .before .before .before .before .before .before .before .before .before .shared-slice-known3 .given k) } in
+    let narrow : SixteenBit (c .before .before .before .before .before .before .before .before .before .before .before .before .before .before .before .before .before .before .before .before .before .before .before .before .before .args .costs .now) = record { narrow = λ k. omega (arith, c .before .before .before .before .before .before .before .before .before .before .before .before .before .before .before .before .before .before .before .before .before .before .shared-slice-known3 .given k) } in
     let settled = settled (pre .0) narrow (c .before .before .before .before .offer-rows .ensures .partly) (c .before .least .ensures) (c .if2 .taken) in
     let none = not-lifted (lifted .1) (c .before .before .before .if1 .left) in
     let same = unmoved (lifted .0 .begun .lined) (fell-then (c .before .before .before .before .before .before .before .before .before .offer-into .ensures .fell) (c .before .before .before .before .offer-rows .ensures .fell)) (settled .none-waits) in

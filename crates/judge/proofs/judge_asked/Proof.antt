@@ -5,7 +5,7 @@ use Prim.Native.Nat.{_<_}
 use native.Mathlib.Omega.{arith}
 use lib.Dec.{eqb}
 use borrow.Author.Needs.{needs}
-use Rattle.rules.specs.Columns.{Table, Tree, Whole, table, arrays, rowsOf, mostNodes, unreached}
+use Rattle.rules.specs.Columns.{Table, Arrays, Whole, table, arrays, rowsOf, mostNodes, unreached}
 use Rattle.rules.specs.Refusals.{accepted, judgeTree}
 use Rattle.rules.proofs.OneOutcome.{number-accepts, number-refuses, tree-links}
 use Rattle.rules.proofs.Logic.{getD-any}
@@ -20,7 +20,7 @@ entry c = c .before .before .before .before .before .before
 abbrev table-of : tie.After-judge-lent-arg3 → Table
 table-of c = table (entry c .args .nodes) (entry c .args .root) (entry c .args .starts .now) (entry c .args .ends .now) (entry c .args .costs .now)
 
-abbrev tree-of : tie.After-judge-lent-arg3 → Tree
+abbrev tree-of : tie.After-judge-lent-arg3 → Arrays
 tree-of c = arrays (entry c .args .dist .now) (entry c .args .parent .now) (entry c .args .first .now)
 
 -- the arrays have 256 entries by their type

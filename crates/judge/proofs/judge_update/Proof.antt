@@ -2,7 +2,7 @@
 use mathlib.Core.Path.{_≡_, sym, _∙_}
 use mathlib.Core.List.{List}
 use borrow.Author.Needs.{needs}
-use Rattle.rules.specs.Columns.{Table, Tree, Whole, table, arrays}
+use Rattle.rules.specs.Columns.{Table, Arrays, Whole, table, arrays}
 use Rattle.rules.specs.Refusals.{accepted, judgeTree, judgeBatch}
 use Rattle.rules.specs.declared.Change.{Change}
 use Rattle.rules.proofs.OneOutcome.{number-accepts, number-refuses, tree-links}
@@ -19,7 +19,7 @@ entry c = c .before .before .before .before .before .before .before .before .bef
 abbrev table-of : tie.After-judge-lent-arg3 → Table
 table-of c = table (entry c .args .nodes) (entry c .args .root) (entry c .args .starts .now) (entry c .args .ends .now) (entry c .args .costs .now)
 
-abbrev tree-of : tie.After-judge-lent-arg3 → Tree
+abbrev tree-of : tie.After-judge-lent-arg3 → Arrays
 tree-of c = arrays (entry c .args .dist .now) (entry c .args .parent .now) (entry c .args .first .now)
 
 abbrev rows-of : tie.After-judge-lent-arg3 → List Change

@@ -6,7 +6,7 @@ use native.Mathlib.Omega.{arith}
 use lib.ListN.{length, length-set}
 use borrow.Author.Needs.{needs}
 use Rattle.rules.specs.Columns.{table, mostNodes}
-use Rattle.rules.specs.Demands.{Narrow}
+use Rattle.rules.specs.Demands.{SixteenBit}
 use Rattle.queue.specs.Queue.{LeastKey}
 use Rattle.settle.specs.Afoot.{Every, Afoot, weight}
 use Rattle.settle.specs.Finding.{GoesOn}
@@ -91,7 +91,7 @@ returns : tie.Need-returns Inv-loop μ-loop
 returns c =
     let start = c .before .before .before .before .before .before .before in
     let loop = c .before .loop in
-    let narrow : Narrow (start .args .costs .now) = record { narrow = λ k. omega (arith, c .before .before .before .before .shared-slice-known3 .given k) } in
+    let narrow : SixteenBit (start .args .costs .now) = record { narrow = λ k. omega (arith, c .before .before .before .before .shared-slice-known3 .given k) } in
     let settled = settled (start .pre .0) narrow (loop .inv .0) (loop .inv .1) (c .loop-test .left) in
     (settled, comes settled (loop .inv .2), loop .inv .3)
 

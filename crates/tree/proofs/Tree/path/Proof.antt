@@ -1,7 +1,7 @@
 -- `tree::Tree::path` meets its contract: past the refusals the node's path is traced. Assumes nothing.
 use mathlib.Core.Path.{_≡_, sym, ap, _∙_}
 use borrow.Author.Needs.{needs}
-use Rattle.rules.specs.Columns.{Table, Tree, Whole, table, arrays}
+use Rattle.rules.specs.Columns.{Table, Arrays, Whole, table, arrays}
 use Rattle.rules.specs.Refusals.{accepted, judgeAsked}
 use Rattle.rules.specs.Answers.{told}
 use Rattle.rules.proofs.OneOutcome.{number-accepts, number-refuses}
@@ -13,7 +13,7 @@ use Rattle.tree.proofs.Tree.path.Tie as tie
 abbrev table-of : tie.Start → Table
 table-of c = table (c .args .nodes) (c .args .root) (c .args .starts .now) (c .args .ends .now) (c .args .costs .now)
 
-abbrev tree-of : tie.Start → Tree
+abbrev tree-of : tie.Start → Arrays
 tree-of c = arrays (c .args .t1 .dist) (c .args .t1 .parent) (c .args .t1 .first)
 
 told-accepted : (c : tie.Else1) → told (c .before .before .judge-asked .result) ≡ accepted

@@ -15,7 +15,7 @@ use Rattle.rules.specs.Columns.{table}
 use Rattle.rules.specs.Jobs.{Updated}
 use Rattle.rules.specs.declared.Change.{Change}
 use Rattle.rules.proofs.Change as B
-use Rattle.gather.specs.Gathering.{mostRead, rowsOf, Gathered}
+use Rattle.gather.specs.Gathering.{mostRead, batchOf, Gathered}
 use Rattle.gather.specs.declared.Rows.{Rows}
 use Rattle.gather.proofs.Cut.{gathered-updated}
 use Rattle.gather.proofs.Rows as R
@@ -24,7 +24,7 @@ use Rattle.gather.proofs.gather as gather
 use Rattle.gather.proofs.gather.Symbol as gather-def
 use Rattle.gather.proofs.gather.Symbol.{name as #gather}
 use Rattle.gather.proofs.gather.Met as gather-thm
-use Rattle.tree.specs.Value.{valueOf}
+use Rattle.tree.specs.Value.{arraysOf}
 use Rattle.tree.specs.declared.NextTree.{NextTree}
 use Rattle.tree.specs.declared.Tree.{Tree}
 use Rattle.tree.proofs.NextTree as N
@@ -166,7 +166,7 @@ module _ {M : Type 1} (𝓤 : URA M) (H : Heap 𝓤) (A : Atoms 𝓤) (W : Given
 
   -- what the update does with a batch's rows, at a result and the last values of the costs and the list
   abbrev Does : List Change → NextTree → List ℕ → List ℕ → Type 0
-  Does rows n cs ls = Updated (table nodes root (starts .now) (ends .now) (costs .now)) (valueOf t) rows (list .now) (told (n .answer)) (valueOf (n .tree)) cs ls (n .count)
+  Does rows n cs ls = Updated (table nodes root (starts .now) (ends .now) (costs .now)) (arraysOf t) rows (list .now) (told (n .answer)) (arraysOf (n .tree)) cs ls (n .count)
 
   exits : (n : NextTree) (w : Val) (cs ls : List ℕ) → Does (batch .now) n cs ls → length cs ≡ length (costs .now) → length ls ≡ length (list .now)
       → ent 𝓤 (⋆ 𝓤 H A ((‵ (flft κ₀ q₀) ⊛ ‵ (flft κ₁ q₁) ⊛ ‵ (flft κ₂ q₂) ⊛ ‵ (flft κ₄ q₄) ⊛ ‵ ftrue) ∷ (‵ (flft κ₃ q₃) ⊛ ‵ ftrue) ∷ ‵ Stay ∷ ‵ (finally u16 (costs .name) cs) ∷ ‵ (finally u16 (list .name) ls) ∷ ‵ (N.the-row .own n (w ∷ [])) ∷ [])) (Post w)
@@ -209,8 +209,8 @@ module _ {M : Type 1} (𝓤 : URA M) (H : Heap 𝓤) (A : Atoms 𝓤) (W : Given
         (and-then ! (load ! (from ! (stop !)) (look ! 27 refl)) (and-then ! (load ! (from ! (stop !)) (look ! 25 refl)) (and-then ! (load ! (from ! (stop !)) (look ! 23 refl)) (and-then ! (load ! (from ! (stop !)) (look ! 21 refl))
         (and-then ! (load ! (from ! (stop !)) (look ! 19 refl)) (and-then ! (load ! (from ! (stop !)) (look ! 7 refl)) (and-then ! (load ! (from ! (stop !)) (look ! 11 refl)) (and-then ! (load ! (from ! (stop !)) (look ! 3 refl)) (no-more !))))))))) (λ w.
         use1 W (later (some (λ (n : NextTree). ((‵ (flft κ₀ q₀) ⊛ ‵ (flft κ₁ q₁) ⊛ ‵ (flft κ₂ q₂) ⊛ ‵ (flft κ₄ q₄) ⊛ ‵ ftrue) ⊛ ‵ (N.the-row .own n (w ∷ []))) ⊛ raw (ensured 𝓤 H A update-rows.ended (update-rows.clauses 𝓤 H A mem run) (κ₀, (κ₁, (κ₂, (κ₄, tt)))) (given-rows r u) tt n)))) (id⊢ 𝓤 _) $ await ! tt $ pick ! (λ n.
-        split ! $ move ! (1 ∷ []) $ use1 W (some (λ (ws : Unit {0} × (Unit {0} × (Unit {0} × (Unit {0} × (Unit {0} × (List ℕ × (Unit {0} × (List ℕ × Unit {0})))))))). ‵ (lasts update-rows.ended (κ₀, (κ₁, (κ₂, (κ₄, tt)))) (given-rows r u) ws) ⊛ raw (fact 𝓤 (Does (rowsOf r) n (ws .1 .1 .1 .1 .1 .0) (ws .1 .1 .1 .1 .1 .1 .1 .0))))) (id⊢ 𝓤 _) $ pick ! (λ ws.
-        split ! $ move ! (1 ∷ []) $ heard ! (Does (rowsOf r) n (ws .1 .1 .1 .1 .1 .0) (ws .1 .1 .1 .1 .1 .1 .1 .0)) (λ does. fsplit ! $ drop ! $ fsplit ! $ drop ! $ fsplit ! $ drop ! $ fsplit ! $ drop ! $ fsplit ! $ drop ! $
+        split ! $ move ! (1 ∷ []) $ use1 W (some (λ (ws : Unit {0} × (Unit {0} × (Unit {0} × (Unit {0} × (Unit {0} × (List ℕ × (Unit {0} × (List ℕ × Unit {0})))))))). ‵ (lasts update-rows.ended (κ₀, (κ₁, (κ₂, (κ₄, tt)))) (given-rows r u) ws) ⊛ raw (fact 𝓤 (Does (batchOf r) n (ws .1 .1 .1 .1 .1 .0) (ws .1 .1 .1 .1 .1 .1 .1 .0))))) (id⊢ 𝓤 _) $ pick ! (λ ws.
+        split ! $ move ! (1 ∷ []) $ heard ! (Does (batchOf r) n (ws .1 .1 .1 .1 .1 .0) (ws .1 .1 .1 .1 .1 .1 .1 .0)) (λ does. fsplit ! $ drop ! $ fsplit ! $ drop ! $ fsplit ! $ drop ! $ fsplit ! $ drop ! $ fsplit ! $ drop ! $
         fsplit ! $ fsplit ! $ move ! (1 ∷ []) $ feqL ! (λ c-long. move ! (1 ∷ []) $ fsplit ! $ drop ! $ fsplit ! $ fsplit ! $ move ! (1 ∷ []) $ feqL ! (λ l-long.
         -- [the last list; true; the last costs; the tokens and the result; the batch's token; what stays; _13; …]
         move ! (3 ∷ []) $ split ! $ move ! (1 ∷ []) $ peeks ! N.the-row (Is N.the-row) (shows 𝓤 H A N.the-row) n (w ∷ []) (λ n-is.

@@ -5,10 +5,10 @@ use mathlib.Core.List.{List}
 use native.Mathlib.Omega.{arith}
 use lib.Seq.{length-take-le}
 use borrow.Author.Needs.{needs}
-use Rattle.rules.specs.Columns.{Table, Tree, Whole, table, arrays}
+use Rattle.rules.specs.Columns.{Table, Arrays, Whole, table, arrays}
 use Rattle.rules.specs.Refusals.{accepted, judgeUpdate}
 use Rattle.rules.specs.Answers.{told}
-use Rattle.rules.specs.Demands.{Narrow}
+use Rattle.rules.specs.Demands.{SixteenBit}
 use Rattle.rules.specs.declared.Change.{Change}
 use Rattle.rules.proofs.OneOutcome.{number-accepts, number-refuses}
 use Rattle.batch.specs.Rows.{rowsOfColumns}
@@ -19,7 +19,7 @@ use Rattle.tree.proofs.Tree.update_columns.Tie as tie
 abbrev table-of : tie.Start → Table
 table-of c = table (c .args .nodes) (c .args .root) (c .args .starts .now) (c .args .ends .now) (c .args .costs .now)
 
-abbrev tree-of : tie.Start → Tree
+abbrev tree-of : tie.Start → Arrays
 tree-of c = arrays (c .args .t1 .dist) (c .args .t1 .parent) (c .args .t1 .first)
 
 abbrev batch-of : tie.Start → List Change
@@ -35,7 +35,7 @@ judged c = sym (c .before .before .judge-update .ensures .0) ∙ told-accepted c
 whole : (c : tie.Else1) → Whole (tree-of (c .before .before .before .before .before .before .before .before .before .before .before .before .before .before .before .before .before))
 whole c = c .before .before .judge-update .ensures .1
 
-narrow : (c : tie.Else1) → Narrow (c .before .before .before .before .before .before .before .before .before .before .before .before .before .before .before .before .before .args .costs .now)
+narrow : (c : tie.Else1) → SixteenBit (c .before .before .before .before .before .before .before .before .before .before .before .before .before .before .before .before .before .args .costs .now)
 narrow c = record { narrow = λ k. omega (arith, c .before .before .before .before .before .before .before .before .before .before .before .before .before .before .slice-known .given k) }
 
 judge-update-requires : tie.Need-judge-update-requires
