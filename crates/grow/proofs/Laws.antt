@@ -18,7 +18,7 @@ use Rattle.hang.specs.Passes.{Tightly, FirstBy, Standing}
 use Rattle.hang.proofs.Parents.{filled}
 use Rattle.hang.proofs.Distances.{root-not-tight, mark-not-tight, next-fresh}
 use Rattle.hang.proofs.Firsts.{standing-firsts}
-use Rattle.hang.proofs.Whole.{Liftable as Hangable, Hanged, Smallest as Best, finds, lacks, AllSmallest, AllPicked, on-old, on-none, Picked, leaving, picked-rising, hanged, tight-by-rules, tight-by-columns}
+use Rattle.hang.proofs.Whole.{Hangable, Hanged, Smallest as Best, finds, lacks, AllSmallest, AllPicked, on-old, on-none, Picked, leaving, picked-rising, hanged, tight-by-rules, tight-by-columns}
 use Rattle.settle.specs.Afoot.{Every, Untouched, distAt, keyAt, Lined, Calm, Partly, Settled, Fallen, same, lower, Fell, Firsts}
 use Rattle.settle.specs.Finding.{foundAt, Moved, Carries, Finding, Found, Alone, hungBy, GoesOn, Heard, CalmOr, Comes}
 use Rattle.settle.proofs.Offers.{waits-now, fell-then, partly-fewer}
