@@ -19,7 +19,7 @@ use Rattle.hang.proofs.Parents.{filled, none-not-tight}
 use Rattle.hang.proofs.Firsts.{first-hangs, first-near, first-far, first-one}
 
 -- the table is accepted, and the distances are its least sums
-pub record Ready (t : Table) (dist : List ℕ) : Type 0 where
+pub record Hangable (t : Table) (dist : List ℕ) : Type 0 where
   pub proper : Proper t
   pub sums : Sums (netOf t) (λ v. getD dist v unreached)
   pub dist-long : length dist ≡ mostNodes
@@ -34,7 +34,7 @@ pub record Hanged (t : Table) (dist old parent first : List ℕ) : Type 0 where
 pub leaving : {t : Table} → Proper t → Leaving (t .starts)
 leaving p = record { few = p .few-links; nodes = λ k l. omega (arith, p .starts k l, p .few-nodes) }
 
-pub ready-given : {t : Table} {dist : List ℕ} → Ready t dist → Given (t .starts) (t .ends) (t .costs) dist
+pub ready-given : {t : Table} {dist : List ℕ} → Hangable t dist → Given (t .starts) (t .ends) (t .costs) dist
 ready-given a =
     let p = a .proper in
     record {
@@ -100,11 +100,11 @@ pub all-picked : {t : Table} {dist old found parent : List ℕ} → AllKept (t .
     → AllPicked t dist old parent
 all-picked k s = record { long = k .long; each = λ v. picked (k .each v) (s .each v) }
 
-pub all-fresh : {t : Table} {dist parent : List ℕ} → Ready t dist → AllSmallest t dist (λ v. Unit {0}) parent
+pub all-fresh : {t : Table} {dist parent : List ℕ} → Hangable t dist → AllSmallest t dist (λ v. Unit {0}) parent
     → AllPicked t dist (replicate mostNodes noLink) parent
 all-fresh a s = record { long = s .long; each = λ v. rw (filled mostNodes noLink v) (picked-smallest (none-not-tight (ready-given a)) (s .each v tt)) }
 
-module _ {t : Table} {dist : List ℕ} (a : Ready t dist) {old parent : List ℕ} (p : AllPicked t dist old parent) (first : List ℕ) where
+module _ {t : Table} {dist : List ℕ} (a : Hangable t dist) {old parent : List ℕ} (p : AllPicked t dist old parent) (first : List ℕ) where
   abbrev N : Net
   N = netOf t
 
