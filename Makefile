@@ -42,7 +42,7 @@ install: archive program records
 # ---- what is tested
 
 # The cases through the C functions (rust/compare/src/bin/cases): what is printed is what tests/ has, and what tests/ has is
-# what other calculations give.
+# what other calculations give. What the program `forms` prints is held to its stdout by every check; here that is worked out.
 cases: archive
 	@cd rust && cargo build --offline --quiet --release -p compare --bin cases
 	@set -e; for part in judging changing; do \
@@ -50,6 +50,8 @@ cases: archive
 	    python3 -B tests/$$part.py | cmp - tests/$$part.out; \
 	    echo "$$part: $$(wc -l <tests/$$part.out) cases, none differ"; \
 	done
+	@python3 -B tests/forms.py | cmp - crates/forms/stdout
+	@echo "forms: $$(wc -l <crates/forms/stdout) cases, none differ"
 
 # The product compared with an independent calculation, on cases and streams from fixed seeds (rust/compare).
 # PART=jobs or PART=streams compares only these; FROM=100000000 takes other seeds.
