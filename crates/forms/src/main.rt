@@ -157,12 +157,14 @@ fn from_p1(name: &[u8], p1: Tree, link: u16, cost: u16) {
     step(name, p1, &mut costs, link, cost, 2, 4);
 }
 
-fn batches() {
+fn in_sequence(p1: Tree) {
     let mut costs = COSTS;
-    let p1 = Tree::build(4, 0, &STARTS, &ENDS, &costs).tree;
     let p2 = step(b"P2", p1, &mut costs, 3, 5, 0, 2);
     let p4 = step(b"P4", p2, &mut costs, 3, 6, 2, 4);
     step(b"P5", p4, &mut costs, 3, 5, 2, 4);
+}
+
+fn each_from_p1(p1: Tree) {
     from_p1(b"P6", p1, 1, 6);
     from_p1(b"P7", p1, 1, 5);
     from_p1(b"P8", p1, 0, 0);
@@ -227,7 +229,7 @@ fn read(name: &[u8], stream: &[u8], times: usize) {
     }
 }
 
-fn streams() {
+fn whole_and_cut() {
     let whole = [
         1u8,
         0,
@@ -256,12 +258,18 @@ fn streams() {
     read(b"cut by a byte", &whole[..20], 6);
     read(b"cut in a link", &whole[..11], 3);
     read(b"a kind byte alone", &whole[..6], 3);
+}
+
+fn damaged() {
     read(b"kind 0", &[5, 0, 1, 0, 4], 3);
     read(b"kind 6", &[4, 6, 4], 3);
     read(b"kind 255", &[255], 2);
 }
 
 fn main() {
-    batches();
-    streams();
+    let p1 = Tree::build(4, 0, &STARTS, &ENDS, &COSTS).tree;
+    in_sequence(p1);
+    each_from_p1(p1);
+    whole_and_cut();
+    damaged();
 }
