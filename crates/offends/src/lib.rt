@@ -5,7 +5,7 @@ ghost use lib.ListN.{length};
 ghost use Rattle.rules.specs.Columns.{Proper, mostNodes};
 ghost use Rattle.rules.specs.Lent.{lent};
 ghost use Rattle.usable.specs.Standing.{tableAt, lentNet, lentDist};
-ghost use Rattle.offends.specs.Offends.{counts, hasMore, offersLess, offends, LeastOffended};
+ghost use Rattle.offends.specs.Offends.{counts, offersLess, offends, LeastOffended};
 use rules::Profile;
 
 // A sum over a link from a node at distance `from` makes a route.
@@ -18,16 +18,6 @@ fn counts(mark: u32, ceiling: u64, from: u32, sum: u64) -> bool
     sum < ceiling
 }
 
-// A node at distance `to` has more than a sum, or is unreached.
-fn has_more(mark: u32, sum: u64, to: u32) -> bool
-    ensures { λ r. ⌜ r ≡ hasMore mark sum to ⌝ }
-{
-    if sum < to as u64 {
-        return true;
-    }
-    to == mark
-}
-
 // A usable link of this cost, from a node at distance `from`, would offer a node at distance `to` less than it has, or
 // enter it though it is unreached. A forged distance may be as large as its width holds, so the sum is made in 64 bits.
 // Few links pass the first test.
@@ -35,10 +25,13 @@ fn offers_less(mark: u32, ceiling: u64, from: u32, cost: u32, to: u32) -> bool
     ensures { λ r. ⌜ r ≡ offersLess mark ceiling from cost to ⌝ }
 {
     let sum = from as u64 + cost as u64;
-    if has_more(mark, sum, to) {
+    if to as u64 <= sum {
+        if to != mark {
+            return false;
+        }
         return counts(mark, ceiling, from, sum);
     }
-    false
+    counts(mark, ceiling, from, sum)
 }
 
 // Link k offers its end less than it has, or enters it though it is unreached. Whether it is usable is asked last.

@@ -29,7 +29,7 @@ use Rattle.rules.proofs.Change.Laws as B′
 use Rattle.rules.specs.Answers.{told}
 use Rattle.rules.specs.Columns.{table}
 use Rattle.rules.specs.Jobs.{Updated}
-use Rattle.tree.specs.Value.{valueOf}
+use Rattle.tree.specs.Value.{arraysOf}
 use Rattle.tree.specs.declared.NextTree.{NextTree}
 use Rattle.tree.specs.declared.Tree.{Tree}
 use Rattle.tree.proofs.NextTree as N
@@ -212,7 +212,7 @@ module _ {M : Type 1} (𝓤 : URA M) (H : Heap 𝓤) (A : Atoms 𝓤) (W : Given
 
   -- what `update` says at a result and the last values of the costs and the list
   abbrev Does : NextTree → List ℕ → List ℕ → Type 0
-  Does n cs ls = Updated (table 4 0 (starts .now) (ends .now) (costs .now)) (valueOf t) rows (list .now) (told (n .answer)) (valueOf (n .tree)) cs ls (n .count)
+  Does n cs ls = Updated (table 4 0 (starts .now) (ends .now) (costs .now)) (arraysOf t) rows (list .now) (told (n .answer)) (arraysOf (n .tree)) cs ls (n .count)
 
   module _ (𝓣 : Tables 𝓤 H) (known : Triple 𝓤 (𝓣 .C #update) (Update 𝓤 H A mem run)) where
     walk : Is (ShrSlice (named 0) κ₀ u16) starts (lent starts ∷ []) → Is (ShrSlice (named 1) κ₁ u16) ends (lent ends ∷ []) → Room u16 (length (costs .now)) → Room u16 (length (list .now))
