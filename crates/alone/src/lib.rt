@@ -4,7 +4,7 @@ ghost use Prim.Native.Nat.{_<_};
 ghost use lib.ListN.{length};
 ghost use Rattle.rules.specs.Columns.{Proper, arrays, Whole, mostNodes, noLink};
 ghost use Rattle.rules.specs.Lent.{lent};
-ghost use Rattle.usable.specs.Standing.{tableAt, lentNet, lentDist, lentFirst, lentRows};
+ghost use Rattle.usable.specs.Standing.{givenTable, lentNet, lentDist, lentFirst, lentRows};
 ghost use Rattle.alone.specs.Alone.{emptyAt, tightBy, firstOf, hungBy, hungAlone, rowAlone, FirstWrong};
 use rules::Profile;
 
@@ -57,7 +57,7 @@ fn hung_by(
     by: u16,
     v: usize,
 ) -> bool
-    requires { ⌜ Proper (tableAt nodes root (now starts) (now ends) (now narrow) (now wide)) × (length (now dist) ≡ mostNodes) × (length (now first) ≡ mostNodes) × (by < length (now starts)) × (v < mostNodes) ⌝ }
+    requires { ⌜ Proper (givenTable nodes root starts ends narrow wide) × (length (now dist) ≡ mostNodes) × (length (now first) ≡ mostNodes) × (by < length (now starts)) × (v < mostNodes) ⌝ }
     ensures { λ r. ⌜ r ≡ hungBy (lentNet profile nodes root starts ends narrow wide) (lentDist profile dist) (lentFirst first) by v ⌝ }
 {
     let k = by as usize;
@@ -85,7 +85,7 @@ fn hung(
     first: &[u16],
     v: usize,
 ) -> bool
-    requires { ⌜ Proper (tableAt nodes root (now starts) (now ends) (now narrow) (now wide)) × Whole (arrays (now dist) (now parent) (now first)) × (v < mostNodes) ⌝ }
+    requires { ⌜ Proper (givenTable nodes root starts ends narrow wide) × Whole (arrays (now dist) (now parent) (now first)) × (v < mostNodes) ⌝ }
     ensures { λ r. ⌜ r ≡ hungAlone (lentNet profile nodes root starts ends narrow wide) (lentRows profile dist parent first) v ⌝ }
 {
     if nodes <= v {
@@ -127,7 +127,7 @@ fn row_right(
     first: &[u16],
     v: usize,
 ) -> bool
-    requires { ⌜ Proper (tableAt nodes root (now starts) (now ends) (now narrow) (now wide)) × Whole (arrays (now dist) (now parent) (now first)) × (v < mostNodes) ⌝ }
+    requires { ⌜ Proper (givenTable nodes root starts ends narrow wide) × Whole (arrays (now dist) (now parent) (now first)) × (v < mostNodes) ⌝ }
     ensures { λ r. ⌜ r ≡ rowAlone (lentNet profile nodes root starts ends narrow wide) (lentRows profile dist parent first) v ⌝ }
 {
     let d = dist[v];
@@ -167,7 +167,7 @@ pub fn first_bad_row(
     parent: &[u16],
     first: &[u16],
 ) -> usize
-    requires { ⌜ Proper (tableAt nodes root (now starts) (now ends) (now narrow) (now wide)) × Whole (arrays (now dist) (now parent) (now first)) ⌝ }
+    requires { ⌜ Proper (givenTable nodes root starts ends narrow wide) × Whole (arrays (now dist) (now parent) (now first)) ⌝ }
     ensures { λ r. ⌜ FirstWrong (lentNet profile nodes root starts ends narrow wide) (lentRows profile dist parent first) r ⌝ }
 {
     let mut v: usize = 0;

@@ -8,7 +8,7 @@ ghost use Rattle.rules.specs.Columns.{arrays, Whole, mostNodes};
 ghost use Rattle.rules.specs.Lent.{lentTable, lentTree};
 ghost use Rattle.rules.specs.Refusals.{accepted, refused, judgeLinks, judgeTree, judgeTreeIn};
 ghost use Rattle.rules.specs.Answers.{told};
-ghost use Rattle.usable.specs.Standing.{tableAt, lentTableAt};
+ghost use Rattle.usable.specs.Standing.{givenTable, lentTableAt};
 use rules::Answer;
 use rules::Profile;
 
@@ -37,7 +37,7 @@ fn judge_tree(
     parent: &[u16],
     first: &[u16],
 ) -> Answer
-    requires { ⌜ (judgeLinks (tableAt nodes root (now starts) (now ends) (now narrow) (now wide)) ≡ accepted) × Whole (arrays (now dist) (now parent) (now first)) × (0 < profile .mark) ⌝ }
+    requires { ⌜ (judgeLinks (givenTable nodes root starts ends narrow wide) ≡ accepted) × Whole (arrays (now dist) (now parent) (now first)) × (0 < profile .mark) ⌝ }
     ensures { λ r. ⌜ told r ≡ judgeTreeIn profile (lentTableAt nodes root starts ends narrow wide) (lentTree dist parent first) ⌝ }
 {
     let row = alone::first_bad_row(

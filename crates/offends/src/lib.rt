@@ -4,7 +4,7 @@ ghost use Prim.Native.Nat.{_<_};
 ghost use lib.ListN.{length};
 ghost use Rattle.rules.specs.Columns.{Proper, mostNodes};
 ghost use Rattle.rules.specs.Lent.{lent};
-ghost use Rattle.usable.specs.Standing.{tableAt, lentNet, lentDist};
+ghost use Rattle.usable.specs.Standing.{givenTable, lentNet, lentDist};
 ghost use Rattle.offends.specs.Offends.{counts, offersLess, offends, LeastOffended};
 use rules::Profile;
 
@@ -46,7 +46,7 @@ fn link_offends(
     dist: &[u32],
     k: usize,
 ) -> bool
-    requires { ⌜ Proper (tableAt nodes root (now starts) (now ends) (now narrow) (now wide)) × (length (now dist) ≡ mostNodes) × (k < length (now starts)) ⌝ }
+    requires { ⌜ Proper (givenTable nodes root starts ends narrow wide) × (length (now dist) ≡ mostNodes) × (k < length (now starts)) ⌝ }
     ensures { λ r. ⌜ r ≡ offends (lentNet profile nodes root starts ends narrow wide) (lentDist profile dist) k ⌝ }
 {
     let from = starts[k] as usize;
@@ -69,7 +69,7 @@ pub fn least_offended(
     wide: &[u32],
     dist: &[u32],
 ) -> usize
-    requires { ⌜ Proper (tableAt nodes root (now starts) (now ends) (now narrow) (now wide)) × (length (now dist) ≡ mostNodes) ⌝ }
+    requires { ⌜ Proper (givenTable nodes root starts ends narrow wide) × (length (now dist) ≡ mostNodes) ⌝ }
     ensures { λ r. ⌜ LeastOffended (lentNet profile nodes root starts ends narrow wide) (lentDist profile dist) (length (lent starts)) r ⌝ }
 {
     let mut least: u16 = 256;
