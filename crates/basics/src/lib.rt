@@ -1,0 +1,1 @@
+// No code: what the inner crates' promises and proofs share.
