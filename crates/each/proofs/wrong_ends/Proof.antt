@@ -1,12 +1,12 @@
--- `links::wrong_ends` meets its contract: the flag of the first two tests says that one of them passes, and where it
+-- `each::wrong_ends` meets its contract: the flag of the first two tests says that one of them passes, and where it
 -- is false the third decides. Assumes nothing.
 use mathlib.Core.Path.{_≡_, _∙_}
 use mathlib.Core.Logic.{⊎-elim}
 use mathlib.Core.Bool.{_||_}
 use lib.Dec.{leb}
 use borrow.Author.Tests.{le-leb, lt-leb}
-use Rattle.links.proofs.wrong_ends.Statement.{statement}
-use Rattle.links.proofs.wrong_ends.Tie as tie
+use Rattle.each.proofs.wrong_ends.Statement.{statement}
+use Rattle.each.proofs.wrong_ends.Tie as tie
 
 no-node : (c : tie.Joined1)
     → c .if1 .if2 ≡ (leb (c .before .args .nodes) (c .before .args .start) || leb (c .before .args .nodes) (c .before .args .end))

@@ -1,4 +1,4 @@
--- `links::judge_each` meets its contract. The loop's invariant is that the links before `i` are passed, with the first
+-- `each::judge_each` meets its contract. The loop's invariant is that the links before `i` are passed, with the first
 -- fall among them; the measure is the number of links left. Each answer is what decides in Laws. Assumes nothing.
 use mathlib.Core.Path.{sym, _∙_}
 use mathlib.Core.Logic.{inl, inr, ⊎-elim}
@@ -8,9 +8,9 @@ use borrow.Author.Needs.{needs}
 use borrow.Author.Tests.{eqb-true, eqb-false}
 use Rattle.rules.specs.Refusals.{wrongEndsAt}
 use Rattle.rules.specs.Columns.{table}
-use Rattle.links.proofs.Laws.{Passed, passed-none, passed-more, falls-here, falls-not-here, ends-decide, order-decides, nothing-decides}
-use Rattle.links.proofs.judge_each.Statement.{statement}
-use Rattle.links.proofs.judge_each.Tie as tie
+use Rattle.each.proofs.Laws.{Passed, passed-none, passed-more, falls-here, falls-not-here, ends-decide, order-decides, nothing-decides}
+use Rattle.each.proofs.judge_each.Statement.{statement}
+use Rattle.each.proofs.judge_each.Tie as tie
 
 abbrev Inv-loop : tie.InvT-loop
 Inv-loop nodes starts ends links fall₀ previous₀ i₀ fall previous i = Passed (table nodes 0 starts ends []) fall previous i

@@ -1,4 +1,4 @@
--- `links::wrong_links` meets its contract. The loop's invariant is that the links before `i` are counted; the measure is
+-- `each::wrong_links` meets its contract. The loop's invariant is that the links before `i` are counted; the measure is
 -- the number of links left. Assumes nothing.
 use mathlib.Core.List.{[]}
 use Prim.Native.Nat.{_-_}
@@ -7,9 +7,9 @@ use lib.ListN.{length}
 use borrow.Author.Needs.{needs}
 use Rattle.rules.specs.Columns.{table}
 use Rattle.rules.specs.Refusals.{wrongEndsAt}
-use Rattle.links.proofs.Laws.{Counted, counted-none, counted-more, none-counted}
-use Rattle.links.proofs.wrong_links.Statement.{statement}
-use Rattle.links.proofs.wrong_links.Tie as tie
+use Rattle.each.proofs.Laws.{Counted, counted-none, counted-more, none-counted}
+use Rattle.each.proofs.wrong_links.Statement.{statement}
+use Rattle.each.proofs.wrong_links.Tie as tie
 
 abbrev Inv-loop : tie.InvT-loop
 Inv-loop nodes starts ends count₀ previous₀ i₀ count previous i = Counted (table nodes 0 starts ends []) count previous i

@@ -1,4 +1,4 @@
--- `links::fault` meets its contract: the flag of the two tests says that one of them passes, and the number follows it.
+-- `each::fault` meets its contract: the flag of the two tests says that one of them passes, and the number follows it.
 -- Assumes nothing.
 use mathlib.Core.Path.{_≡_, _∙_}
 use mathlib.Core.Logic.{⊎-elim}
@@ -6,8 +6,8 @@ use mathlib.Core.Bool.{_||_}
 use lib.Dec.{ltb}
 use borrow.Author.Needs.{needs}
 use Rattle.rules.specs.Refusals.{wrongEnds}
-use Rattle.links.proofs.fault.Statement.{statement}
-use Rattle.links.proofs.fault.Tie as tie
+use Rattle.each.proofs.fault.Statement.{statement}
+use Rattle.each.proofs.fault.Tie as tie
 
 wrong-ends-requires : tie.Need-wrong-ends-requires
 wrong-ends-requires c κs = search needs
