@@ -1,4 +1,4 @@
--- What the parts' answers say of the whole job. Assumes nothing.
+-- What an accepted batch says of the parts of the job. Assumes nothing.
 use mathlib.Core.Path.{_≡_, refl, sym, _∙_}
 use mathlib.Core.Logic.{_≢_}
 use mathlib.Core.List.{List, [], _∷_}
@@ -10,13 +10,13 @@ use lib.ListN.{length, getD, set, take}
 use lib.Seq.{length-take-le, getD-take, getD-set-other}
 use borrow.Author.Tests.{lt-ltb}
 use Rattle.rules.specs.Fit.{Fits}
-use Rattle.rules.specs.Columns.{Table, Arrays, Proper, Whole, netOf, rowsOf, emptyTree, applied, after, unreached}
-use Rattle.rules.specs.Refusals.{Verdict, accepted, refused, when, judgeLinks, judgeTree, judgeBatch, judgeUpdate, judgeAsked, linkAt}
-use Rattle.rules.specs.Jobs.{changedBelow, Built, built, not-built, Updated, updated, not-updated, Pathed, not-pathed}
+use Rattle.rules.specs.Columns.{Table, Arrays, Proper, Whole, netOf, rowsOf, applied, after, unreached}
+use Rattle.rules.specs.Refusals.{Verdict, accepted, when, judgeTree, judgeBatch, judgeUpdate, linkAt}
+use Rattle.rules.specs.Jobs.{changedBelow, Updated, updated, not-updated}
 use Rattle.rules.specs.Demands.{SixteenBit}
 use Rattle.rules.specs.declared.Change.{Change}
 use Rattle.rules.proofs.Sound.{fits-shortest, root-zero, walk-node}
-use Rattle.rules.proofs.Judged.{legal, links-proper, tree-accepted, not-refused, then-first, then-second}
+use Rattle.rules.proofs.Judged.{legal, tree-accepted, not-refused, then-first, then-second}
 use Rattle.rules.proofs.OneOutcome.{tree-links, update-links, after-proper}
 use Rattle.rules.proofs.Accepted.{largest-distance}
 use Rattle.judge.proofs.Laws.{refusal}
@@ -24,27 +24,7 @@ use Rattle.batch.specs.Rows.{rowsOfColumns, Named}
 use Rattle.batch.proofs.Laws.{links-fewer, costs-fewer, row-at}
 use Rattle.batch.proofs.Batches.{rows-named}
 use Rattle.changed.specs.Listed.{ListedBelow}
-use Rattle.path.specs.Climb.{Traces}
-use Rattle.path.specs.declared.Traced.{Traced}
-use Rattle.path.specs.declared.Traced.the-variants.{Written, TooShort}
-use Rattle.path.proofs.Paths.{parentsOf, traces-pathed}
-use Rattle.grow.specs.Grown.{Grown, Old, Fitted, Regrown}
-
--- ---- fresh build
-
-module _ {t : Table} {v : Verdict} (is : v ≡ judgeLinks t) where
-  pub build-refused : (v ≡ accepted → ⊥) → {tree : Arrays} → tree ≡ emptyTree → Built t v tree
-  build-refused n {tree} e =
-      let r = refusal v n in
-      rw (e, r .is) (not-built (sym is ∙ r .is))
-
-  pub build-proper : v ≡ accepted → Proper t
-  build-proper a = links-proper t (sym is ∙ a)
-
-  pub build-accepted : v ≡ accepted → {tree : Arrays} → Grown t tree → Built t v tree
-  build-accepted a g = rw a (built (sym is ∙ a) (g .whole) (g .fresh))
-
--- ---- an accepted update
+use Rattle.grow.specs.Grown.{Old, Fitted, Regrown}
 
 -- no more rows than links
 pub rows-fewer : (links costs : List ℕ) → length (rowsOfColumns links costs) ≤ length links
@@ -122,26 +102,13 @@ module _ (t : Table) (old : Arrays) (batch : List Change) (list : List ℕ) (e :
       link-at : (m : ℕ) → m < length batch → getD (take (length batch) changed) m 0 ≡ linkAt batch m
       link-at m l = getD-take (length batch) changed m 0 l ∙ rw is (sym (row-at changed newcosts m (rw is at l) .link))
 
-  pub update-updated : {new : Arrays} {costs listed : List ℕ} {count : ℕ} {v : Verdict} → v ≡ accepted → Regrown (after t batch) (old .parent) new
-      → costs ≡ applied batch (t .costs) → ListedBelow old new (t .nodes) list listed count → Updated t old batch list v new costs listed count
-  update-updated {new} a g c l =
-      rw (a, c, l .front, l .counted) (updated (changedBelow (rowsOf old) (rowsOf new) (t .nodes)) e (g .whole) (g .next) refl)
+  pub update-updated : {new : Arrays} {costs listed : List ℕ} {count : ℕ} → Regrown (after t batch) (old .parent) new
+      → costs ≡ applied batch (t .costs) → ListedBelow old new (t .nodes) list listed count → Updated t old batch list accepted new costs listed count
+  update-updated {new} g c l =
+      rw (c, l .front, l .counted) (updated (changedBelow (rowsOf old) (rowsOf new) (t .nodes)) e (g .whole) (g .next) refl)
 
 pub update-refused : {t : Table} {old : Arrays} {batch : List Change} {list : List ℕ} {v : Verdict} → v ≡ judgeUpdate t old batch list → (v ≡ accepted → ⊥)
     → Updated t old batch list v old (t .costs) list 0
 update-refused {v = v} is n =
     let r = refusal v n in
     rw (r .is) (not-updated (sym is ∙ r .is))
-
-pub path-refused : {t : Table} {tree : Arrays} {node : ℕ} {list : List ℕ} {v : Verdict} → v ≡ judgeAsked t tree node → (v ≡ accepted → ⊥)
-    → Pathed t tree node list v list 0
-path-refused {v = v} is n =
-    let r = refusal v n in
-    rw (r .is) (not-pathed (sym is ∙ r .is))
-
-module _ (t : Table) (tree : Arrays) (node : ℕ) (w : Whole tree) (e : judgeAsked t tree node ≡ accepted) {list exit : List ℕ} {r : Traced} (h : Traces (parentsOf t tree) node list r exit) where
-  pub path-told : {n : ℕ} → r ≡ Written n → {v : Verdict} → v ≡ accepted → Pathed t tree node list v exit n
-  path-told {n} is a = rw a (rw is at (traces-pathed t tree node w e h))
-
-  pub path-short : r ≡ TooShort → Pathed t tree node list (refused 12 0) exit 0
-  path-short is = rw is at (traces-pathed t tree node w e h)
