@@ -8,7 +8,6 @@ ghost use Rattle.batch.specs.Rows.{rowsOfColumns};
 ghost use Rattle.stream.specs.Records.{readAt};
 ghost use Rattle.plain.specs.Verdicts.{InNumbers};
 ghost use Rattle.plain.specs.Readings.{HandedBack};
-use tree::Tree;
 
 #[no_mangle]
 pub extern "C" fn routes_judge_links(
@@ -58,16 +57,10 @@ pub extern "C" fn routes_build(
 ) -> u16
     ensures { λ r. ⌜ InNumbers (λ v. Built (lentTable nodes root starts ends costs) v (leftTree dist parent first)) r (left value) ⌝ }
 {
-    let built = Tree::build(nodes, root, starts, ends, costs);
-    let tree = built.tree;
-    let d = tree.dist;
-    let p = tree.parent;
-    let f = tree.first;
-    *dist = d;
-    *parent = p;
-    *first = f;
-    let answer = built.answer;
-    plain::tell(answer, value)
+    plain::tell(
+        build::build(nodes, root, starts, ends, costs, dist, parent, first),
+        value,
+    )
 }
 
 #[no_mangle]
@@ -88,37 +81,35 @@ pub extern "C" fn routes_update(
 ) -> u16
     ensures { λ r. ⌜ InNumbers (λ v. Updated (lentTable nodes root starts ends costs) (lentTree dist parent first) (rowsOfColumns (lent changed) (lent newcosts)) (lent list) v (leftTree dist parent first) (left costs) (left list) (left count)) r (left value) ⌝ }
 {
-    let d = *dist;
-    let p = *parent;
-    let f = *first;
-    let old = Tree {
-        dist: d,
-        parent: p,
-        first: f,
-    };
-    let updated = old.update_columns(nodes, root, starts, ends, costs, changed, newcosts, list);
-    let tree = updated.tree;
-    let d = tree.dist;
-    let p = tree.parent;
-    let f = tree.first;
-    *dist = d;
-    *parent = p;
-    *first = f;
-    *count = updated.count;
-    let answer = updated.answer;
-    plain::tell(answer, value)
+    plain::tell(
+        update::update(
+            nodes,
+            root,
+            starts,
+            ends,
+            costs,
+            changed,
+            newcosts,
+            dist,
+            parent,
+            first,
+            list,
+            count,
+        ),
+        value,
+    )
 }
 
 #[no_mangle]
-pub extern "C" fn routes_path(
+pub extern "C" fn routes_path<'a>(
     nodes: usize,
     root: usize,
-    starts: &[u16],
+    starts: &'a [u16],
     ends: &[u16],
     costs: &[u16],
-    dist: &[u32; 256],
-    parent: &[u16; 256],
-    first: &[u16; 256],
+    dist: &'a [u32; 256],
+    parent: &'a [u16; 256],
+    first: &'a [u16; 256],
     node: usize,
     list: &mut [u16],
     count: &mut usize,
@@ -126,18 +117,22 @@ pub extern "C" fn routes_path(
 ) -> u16
     ensures { λ r. ⌜ InNumbers (λ v. Pathed (lentTable nodes root starts ends costs) (lentTree dist parent first) node (lent list) v (left list) (left count)) r (left value) ⌝ }
 {
-    let d = *dist;
-    let p = *parent;
-    let f = *first;
-    let tree = Tree {
-        dist: d,
-        parent: p,
-        first: f,
-    };
-    let told = tree.path(nodes, root, starts, ends, costs, node, list);
-    *count = told.count;
-    let answer = told.answer;
-    plain::tell(answer, value)
+    plain::tell(
+        route::path(
+            nodes,
+            root,
+            starts,
+            ends,
+            costs,
+            dist,
+            parent,
+            first,
+            node,
+            list,
+            count,
+        ),
+        value,
+    )
 }
 
 #[no_mangle]

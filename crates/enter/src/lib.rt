@@ -28,7 +28,7 @@ fn judge_link(nodes: usize, starts: &[u16], start: u16, end: u16) -> Answer
     if 4096 <= place {
         return Answer::WrongColumns;
     }
-    if links::wrong_ends(nodes, start, end) {
+    if each::wrong_ends(nodes, start, end) {
         return Answer::WrongEnds(place as u16);
     }
     if start < last_start(starts) {

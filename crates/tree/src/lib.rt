@@ -1,16 +1,15 @@
-// The tree of shortest routes, which travels by value, and the jobs over it. Inside a job its arrays are lent.
+// The tree of shortest routes, which travels by value, and the jobs over it, which lend its arrays to those that do the work.
 ghost use mathlib.Core.Path.{_≡_};
 ghost use Prim.Native.Nat.{_≤_};
 ghost use Rattle.rules.specs.Answers.{told};
-ghost use Rattle.rules.specs.Columns.{Proper, table, emptyTree};
+ghost use Rattle.rules.specs.Columns.{emptyTree};
+ghost use Rattle.rules.specs.Lent.{lent, left, lentTable};
 ghost use Rattle.rules.specs.Refusals.{judgeTree};
 ghost use Rattle.rules.specs.Jobs.{Built, Updated, Pathed};
 ghost use Rattle.batch.specs.Rows.{rowsOfColumns};
 ghost use Rattle.gather.specs.Gathering.{mostRead, batchOf};
-ghost use Rattle.grow.specs.Grown.{Grown};
 ghost use Rattle.tree.specs.Value.{arraysOf, withRow};
 use gather::Rows;
-use path::Traced;
 use rules::Answer;
 use rules::Change;
 use rules::UNREACHED;
@@ -39,31 +38,6 @@ pub struct NextTree {
 pub struct PathTold {
     pub answer: Answer,
     pub count: usize,
-}
-
-// A tree grown over a table that was accepted.
-fn grown(nodes: usize, root: usize, starts: &[u16], ends: &[u16], costs: &[u16]) -> Tree
-    requires { ⌜ Proper (table nodes root (now starts) (now ends) (now costs)) ⌝ }
-    ensures { λ r. ⌜ Grown (table nodes root (now (starts .entry)) (now (ends .entry)) (now (costs .entry))) (arraysOf r) ⌝ }
-{
-    let mut dist = [0u32; 256];
-    let mut parent = [0u16; 256];
-    let mut first = [0u16; 256];
-    grow::grow(
-        nodes,
-        root,
-        starts,
-        ends,
-        costs,
-        &mut dist,
-        &mut parent,
-        &mut first,
-    );
-    Tree {
-        dist: dist,
-        parent: parent,
-        first: first,
-    }
 }
 
 impl Tree {
@@ -99,7 +73,7 @@ impl Tree {
         ends: &[u16],
         costs: &[u16],
     ) -> Answer
-        ensures { λ r. ⌜ told r ≡ judgeTree (table nodes root (now (starts .entry)) (now (ends .entry)) (now (costs .entry))) (arraysOf self) ⌝ }
+        ensures { λ r. ⌜ told r ≡ judgeTree (lentTable nodes root starts ends costs) (arraysOf self) ⌝ }
     {
         fit::judge_rows(
             nodes,
@@ -121,17 +95,28 @@ impl Tree {
         ends: &[u16],
         costs: &[u16],
     ) -> FreshTree
-        ensures { λ r. ⌜ Built (table nodes root (now (starts .entry)) (now (ends .entry)) (now (costs .entry))) (told (r .answer)) (arraysOf (r .tree)) ⌝ }
+        ensures { λ r. ⌜ Built (lentTable nodes root starts ends costs) (told (r .answer)) (arraysOf (r .tree)) ⌝ }
     {
-        let answer = links::judge_links(nodes, root, starts, ends, costs);
-        if rules::number(answer) != 0 {
-            return FreshTree {
-                tree: Tree::empty(),
-                answer: answer,
-            };
-        }
+        let mut dist = [0u32; 256];
+        let mut parent = [0u16; 256];
+        let mut first = [0u16; 256];
+        let answer = build::build(
+            nodes,
+            root,
+            starts,
+            ends,
+            costs,
+            &mut dist,
+            &mut parent,
+            &mut first,
+        );
+        let tree = Tree {
+            dist: dist,
+            parent: parent,
+            first: first,
+        };
         FreshTree {
-            tree: grown(nodes, root, starts, ends, costs),
+            tree: tree,
             answer: answer,
         }
     }
@@ -148,7 +133,7 @@ impl Tree {
         batch: &[Change],
         list: &mut [u16],
     ) -> NextTree
-        ensures { λ r. ⌜ Updated (table nodes root (now (starts .entry)) (now (ends .entry)) (now (costs .entry))) (arraysOf self) (now (batch .entry)) (now (list .entry)) (told (r .answer)) (arraysOf (r .tree)) (now (costs .exit)) (now (list .exit)) (r .count) ⌝ }
+        ensures { λ r. ⌜ Updated (lentTable nodes root starts ends costs) (arraysOf self) (lent batch) (lent list) (told (r .answer)) (arraysOf (r .tree)) (left costs) (left list) (r .count) ⌝ }
     {
         let rows = gather::gather(batch);
         self.update_rows(nodes, root, starts, ends, costs, rows, list)
@@ -166,7 +151,7 @@ impl Tree {
         list: &mut [u16],
     ) -> NextTree
         requires { ⌜ rows .count ≤ mostRead ⌝ }
-        ensures { λ r. ⌜ Updated (table nodes root (now (starts .entry)) (now (ends .entry)) (now (costs .entry))) (arraysOf self) (batchOf rows) (now (list .entry)) (told (r .answer)) (arraysOf (r .tree)) (now (costs .exit)) (now (list .exit)) (r .count) ⌝ }
+        ensures { λ r. ⌜ Updated (lentTable nodes root starts ends costs) (arraysOf self) (batchOf rows) (lent list) (told (r .answer)) (arraysOf (r .tree)) (left costs) (left list) (r .count) ⌝ }
     {
         let changed = rows.link;
         let newcosts = rows.cost;
@@ -195,53 +180,25 @@ impl Tree {
         newcosts: &[u16],
         list: &mut [u16],
     ) -> NextTree
-        ensures { λ r. ⌜ Updated (table nodes root (now (starts .entry)) (now (ends .entry)) (now (costs .entry))) (arraysOf self) (rowsOfColumns (now (changed .entry)) (now (newcosts .entry))) (now (list .entry)) (told (r .answer)) (arraysOf (r .tree)) (now (costs .exit)) (now (list .exit)) (r .count) ⌝ }
+        ensures { λ r. ⌜ Updated (lentTable nodes root starts ends costs) (arraysOf self) (rowsOfColumns (lent changed) (lent newcosts)) (lent list) (told (r .answer)) (arraysOf (r .tree)) (left costs) (left list) (r .count) ⌝ }
     {
         let mut dist = self.dist;
         let mut parent = self.parent;
         let mut first = self.first;
-        let answer = judge::judge_update(
+        let mut count: usize = 0;
+        let answer = update::update(
             nodes,
             root,
             starts,
             ends,
             costs,
-            &dist,
-            &parent,
-            &first,
             changed,
             newcosts,
-            list,
-        );
-        if rules::number(answer) != 0 {
-            return NextTree {
-                tree: self,
-                answer: answer,
-                count: 0,
-            };
-        }
-        batch::write_costs(changed, newcosts, costs);
-        let rows = batch::row_count(changed, newcosts);
-        grow::regrow(
-            nodes,
-            root,
-            starts,
-            ends,
-            costs,
-            &changed[..rows],
             &mut dist,
             &mut parent,
             &mut first,
-        );
-        let count = changed::list_changed(
-            nodes,
-            &self.dist,
-            &self.parent,
-            &self.first,
-            &dist,
-            &parent,
-            &first,
             list,
+            &mut count,
         );
         self.dist = dist;
         self.parent = parent;
@@ -264,9 +221,10 @@ impl Tree {
         node: usize,
         list: &mut [u16],
     ) -> PathTold
-        ensures { λ r. ⌜ Pathed (table nodes root (now (starts .entry)) (now (ends .entry)) (now (costs .entry))) (arraysOf self) node (now (list .entry)) (told (r .answer)) (now (list .exit)) (r .count) ⌝ }
+        ensures { λ r. ⌜ Pathed (lentTable nodes root starts ends costs) (arraysOf self) node (lent list) (told (r .answer)) (left list) (r .count) ⌝ }
     {
-        let answer = judge::judge_asked(
+        let mut count: usize = 0;
+        let answer = route::path(
             nodes,
             root,
             starts,
@@ -276,23 +234,12 @@ impl Tree {
             &self.parent,
             &self.first,
             node,
+            list,
+            &mut count,
         );
-        if rules::number(answer) != 0 {
-            return PathTold {
-                answer: answer,
-                count: 0,
-            };
-        }
-        let traced = path::trace(root, node, starts, &self.dist, &self.parent, list);
-        match traced {
-            Traced::Written(n) => PathTold {
-                answer: answer,
-                count: n,
-            },
-            Traced::TooShort => PathTold {
-                answer: Answer::ListTooShort,
-                count: 0,
-            },
+        PathTold {
+            answer: answer,
+            count: count,
         }
     }
 }
