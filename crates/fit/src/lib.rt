@@ -2,9 +2,9 @@
 // smallest that a link offers less than it has, and the smallest whose row is wrong by itself.
 ghost use mathlib.Core.Bool.{cond};
 ghost use mathlib.Core.Path.{_≡_};
-ghost use Prim.Native.Nat.{_<_};
+ghost use Prim.Native.Nat.{_≤_, _<_};
 ghost use lib.Dec.{ltb};
-ghost use Rattle.rules.specs.Columns.{arrays, Whole, mostNodes};
+ghost use Rattle.rules.specs.Columns.{arrays, Whole, mostNodes, noCeiling};
 ghost use Rattle.rules.specs.Lent.{lentTable, lentTree};
 ghost use Rattle.rules.specs.Refusals.{accepted, refused, judgeLinks, judgeTree, judgeTreeIn};
 ghost use Rattle.rules.specs.Answers.{told};
@@ -37,7 +37,7 @@ fn judge_tree(
     parent: &[u16],
     first: &[u16],
 ) -> Answer
-    requires { ⌜ (judgeLinks (givenTable nodes root starts ends narrow wide) ≡ accepted) × Whole (arrays (now dist) (now parent) (now first)) × (0 < profile .mark) ⌝ }
+    requires { ⌜ (judgeLinks (givenTable nodes root starts ends narrow wide) ≡ accepted) × Whole (arrays (now dist) (now parent) (now first)) × (0 < profile .mark) × (profile .ceiling ≤ noCeiling) ⌝ }
     ensures { λ r. ⌜ told r ≡ judgeTreeIn profile (lentTableAt nodes root starts ends narrow wide) (lentTree dist parent first) ⌝ }
 {
     let row = alone::first_bad_row(

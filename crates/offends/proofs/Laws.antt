@@ -6,12 +6,14 @@ use Prim.Native.Nat.{ℕ, _+_, _≤_, _<_}
 use native.Mathlib.Omega.{arith}
 use lib.ListN.{length, getD}
 use borrow.Author.Count.{below-more}
+use borrow.Author.Tests.{lt-ltb, le-ltb}
 use Rattle.rules.specs.Net.{Net}
 use Rattle.rules.specs.Tests.{usable}
 use Rattle.rules.specs.Columns.{Table, Proper, netIn, mostNodes}
 use Rattle.rules.specs.declared.Profile.{Profile}
 use Rattle.usable.proofs.Reading.{start-has-row, end-has-row, read-row}
-use Rattle.offends.specs.Offends.{offersLess, offends, Offended, LeastOffended}
+use Rattle.offends.specs.Offends.{offersLess, offends, Bars, offendsBy, Offended, LeastOffended}
+use Rattle.offends.proofs.Below.{offers-by-bars}
 
 -- what is read of a link and of its ends decides
 module _ (p : Profile) {t : Table} (proper : Proper t) (ds : List ℕ) (long : length ds ≡ mostNodes) {k : ℕ} (is-link : k < length (t .starts)) where
@@ -24,6 +26,29 @@ module _ (p : Profile) {t : Table} (proper : Proper t) (ds : List ℕ) (long : l
         read-row ds long (getD (t .starts) k 0) (p .mark) (start-has-row proper is-link),
         read-row ds long (getD (t .ends) k 0) (p .mark) (end-has-row proper is-link),
       )
+
+  -- its ends' bars tell it
+  pub by-bars : {bars : List ℕ} → Bars (p .mark) (p .ceiling) ds mostNodes bars
+      → offendsBy (netIn p t) bars k ≡ offends (netIn p t) (λ v. getD ds v (p .mark)) k
+  unfolding offendsBy
+  by-bars h =
+      rw (
+        offends-reads,
+        offers-by-bars (p .mark) (p .ceiling) (getD ds (getD (t .starts) k 0) 0) (getD (t .costs) k 0) (getD ds (getD (t .ends) k 0) 0),
+        h .each (getD (t .starts) k 0) (omega (arith, start-has-row proper is-link)),
+        h .each (getD (t .ends) k 0) (omega (arith, end-has-row proper is-link)),
+      )
+
+-- what the comparison and the question whether the link is usable make of it
+pub offends-less : (N : Net) (bars : List ℕ) (k : ℕ) {b : Bool} → getD bars (N .start k) 0 + N .cost k < getD bars (N .end k) 0
+    → b ≡ usable N k → b ≡ offendsBy N bars k
+unfolding offendsBy
+offends-less N bars k less e = rw (lt-ltb (getD bars (N .start k) 0 + N .cost k) (getD bars (N .end k) 0) less) e
+
+pub offends-not : (N : Net) (bars : List ℕ) (k : ℕ) → getD bars (N .end k) 0 ≤ getD bars (N .start k) 0 + N .cost k
+    → false ≡ offendsBy N bars k
+unfolding offendsBy
+offends-not N bars k level = rw (le-ltb (getD bars (N .start k) 0 + N .cost k) (getD bars (N .end k) 0) level)
 
 offended-more : {N : Net} {dist : ℕ → ℕ} {n v : ℕ} → Offended N dist n v → Offended N dist (n + 1) v
 offended-more o = record { link = o .link; is-link = omega (arith, o .is-link); ends-at = o .ends-at; offends = o .offends }
@@ -46,14 +71,14 @@ least-later {N} {dist} {n} {v} h later = record {
 }
 
 -- a link more that offers its end nothing less
-pub least-skip : {N : Net} {dist : ℕ → ℕ} {n v : ℕ} {b : Bool} → LeastOffended N dist n v
-    → b ≡ offends N dist n → b ≡ false → LeastOffended N dist (n + 1) v
-least-skip h is fails = least-later h (λ o. absurd (true≢false (cc)))
+pub least-skip : {N : Net} {dist : ℕ → ℕ} {n v : ℕ} {a b : Bool} → LeastOffended N dist n v
+    → b ≡ a → a ≡ offends N dist n → b ≡ false → LeastOffended N dist (n + 1) v
+least-skip h tells is fails = least-later h (λ o. absurd (true≢false (cc)))
 
 -- a link more that offers its end less, and ends sooner
-pub least-take : {N : Net} {dist : ℕ → ℕ} {n v : ℕ} {b : Bool} → LeastOffended N dist n v
-    → b ≡ offends N dist n → b ≡ true → N .end n < v → LeastOffended N dist (n + 1) (N .end n)
-least-take {N} {dist} {n} {v} h is passes sooner = record {
+pub least-take : {N : Net} {dist : ℕ → ℕ} {n v : ℕ} {a b : Bool} → LeastOffended N dist n v
+    → b ≡ a → a ≡ offends N dist n → b ≡ true → N .end n < v → LeastOffended N dist (n + 1) (N .end n)
+least-take {N} {dist} {n} {v} h tells is passes sooner = record {
   within = omega (arith, h .within);
   least =
       below-more (λ (k : ℕ). offends N dist k ≡ true → N .end n ≤ N .end k) n

@@ -1,11 +1,13 @@
 -- The pass over the links: which nodes a link offers less than they have. Assumes nothing.
 use mathlib.Core.Path.{_≡_}
-use mathlib.Core.Bool.{Bool, true, _&&_, _||_, not}
+use mathlib.Core.Bool.{Bool, true, _&&_, _||_, not, cond}
+use mathlib.Core.List.{List}
 use Prim.Native.Nat.{ℕ, _+_, _≤_, _<_}
 use lib.Dec.{eqb, ltb}
+use lib.ListN.{length, getD}
 use Rattle.rules.specs.Net.{Net}
 use Rattle.rules.specs.Tests.{usable}
-use Rattle.rules.specs.Columns.{mostNodes}
+use Rattle.rules.specs.Columns.{mostNodes, noCeiling}
 
 -- a sum over a link from a node at this distance makes a route: the node is reached, and the sum below the ceiling
 abbrev pub counts : ℕ → ℕ → ℕ → ℕ → Bool
@@ -19,6 +21,25 @@ hasMore mark sum to = ltb sum to || eqb to mark
 -- it is unreached: if the link is usable
 unfoldable pub offersLess : ℕ → ℕ → ℕ → ℕ → ℕ → Bool
 offersLess mark ceiling from cost to = counts mark ceiling from (from + cost) && hasMore mark (from + cost) to
+
+-- what an offer has to stay below at a node of this distance: the distance where that makes a route, else the ceiling
+unfoldable pub bar : ℕ → ℕ → ℕ → ℕ
+bar mark ceiling dist = cond (counts mark ceiling dist dist) dist ceiling
+
+-- of the first n nodes
+pub record Bars (mark ceiling : ℕ) (dist : List ℕ) (n : ℕ) (bars : List ℕ) : Type 0 where
+  pub long : length bars ≡ mostNodes
+  pub each : (v : ℕ) → v < n → getD bars v 0 ≡ bar mark ceiling (getD dist v 0)
+
+-- a cost can be added to each
+pub record Low (bars : List ℕ) : Type 0 where
+  pub long : length bars ≡ mostNodes
+  pub low : (v : ℕ) → v < mostNodes → getD bars v 0 ≤ noCeiling
+
+-- link k offers less by the bars of its ends, and is usable
+unfoldable pub offendsBy : Net → List ℕ → ℕ → Bool
+unfolding usable
+offendsBy N bars k = ltb (getD bars (N .start k) 0 + N .cost k) (getD bars (N .end k) 0) && usable N k
 
 module _ (N : Net) (dist : ℕ → ℕ) where
   -- link k does, and is

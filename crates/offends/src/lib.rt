@@ -1,37 +1,41 @@
 // The pass over the links by which a tree is judged: which nodes a link offers less than they have.
 ghost use mathlib.Core.Path.{_≡_};
-ghost use Prim.Native.Nat.{_<_};
+ghost use Prim.Native.Nat.{_≤_, _<_};
 ghost use lib.ListN.{length};
-ghost use Rattle.rules.specs.Columns.{Proper, mostNodes};
+ghost use Rattle.rules.specs.Columns.{Proper, mostNodes, noCeiling};
 ghost use Rattle.rules.specs.Lent.{lent};
 ghost use Rattle.usable.specs.Standing.{givenTable, lentNet, lentDist};
-ghost use Rattle.offends.specs.Offends.{counts, offersLess, offends, LeastOffended};
+ghost use Rattle.offends.specs.Offends.{bar, Bars, Low, offendsBy, LeastOffended};
 use rules::Profile;
 
-// A sum over a link from a node at distance `from` makes a route.
-fn counts(mark: u32, ceiling: u64, from: u32, sum: u64) -> bool
-    ensures { λ r. ⌜ r ≡ counts mark ceiling from sum ⌝ }
+const NODES: usize = 256;
+
+// The sum that an offer has to stay below, to be less than what a node at this distance has or to reach it: the distance,
+// or the ceiling where the node is unreached or stands beyond it.
+fn bar(mark: u32, ceiling: u64, dist: u32) -> u64
+    ensures { λ r. ⌜ r ≡ bar mark ceiling dist ⌝ }
 {
-    if from == mark {
-        return false;
+    if dist == mark {
+        return ceiling;
     }
-    sum < ceiling
+    if ceiling <= dist as u64 {
+        return ceiling;
+    }
+    dist as u64
 }
 
-// A usable link of this cost, from a node at distance `from`, would offer a node at distance `to` less than it has, or
-// enter it though it is unreached. A forged distance may be as large as its width holds, so the sum is made in 64 bits.
-// Few links pass the first test.
-fn offers_less(mark: u32, ceiling: u64, from: u32, cost: u32, to: u32) -> bool
-    ensures { λ r. ⌜ r ≡ offersLess mark ceiling from cost to ⌝ }
+// The same of every node, so that one comparison tells of a link what its ends' distances mean.
+fn bars(mark: u32, ceiling: u64, dist: &[u32]) -> [u64; 256]
+    requires { ⌜ length (now dist) ≡ mostNodes ⌝ }
+    ensures { λ r. ⌜ Bars mark ceiling (lent dist) mostNodes r ⌝ }
 {
-    let sum = from as u64 + cost as u64;
-    if to as u64 <= sum {
-        if to != mark {
-            return false;
-        }
-        return counts(mark, ceiling, from, sum);
+    let mut bars = [0u64; 256];
+    let mut v: usize = 0;
+    while v < NODES {
+        bars[v] = bar(mark, ceiling, dist[v]);
+        v += 1;
     }
-    counts(mark, ceiling, from, sum)
+    bars
 }
 
 // Link k offers its end less than it has, or enters it though it is unreached. Whether it is usable is asked last.
@@ -43,16 +47,17 @@ fn link_offends(
     ends: &[u16],
     narrow: &[u16],
     wide: &[u32],
-    dist: &[u32],
+    bars: &[u64; 256],
     k: usize,
 ) -> bool
-    requires { ⌜ Proper (givenTable nodes root starts ends narrow wide) × (length (now dist) ≡ mostNodes) × (k < length (now starts)) ⌝ }
-    ensures { λ r. ⌜ r ≡ offends (lentNet profile nodes root starts ends narrow wide) (lentDist profile dist) k ⌝ }
+    requires { ⌜ Proper (givenTable nodes root starts ends narrow wide) × (k < length (now starts)) × Low (now bars) ⌝ }
+    ensures { λ r. ⌜ r ≡ offendsBy (lentNet profile nodes root starts ends narrow wide) (lent bars) k ⌝ }
 {
     let from = starts[k] as usize;
     let to = ends[k] as usize;
     let cost = costs::at(narrow, wide, k);
-    if offers_less(profile.mark, profile.ceiling, dist[from], cost, dist[to]) {
+    let sum = bars[from] + cost as u64;
+    if sum < bars[to] {
         return usable::usable(profile, nodes, root, starts, ends, narrow, wide, k);
     }
     false
@@ -69,15 +74,16 @@ pub fn least_offended(
     wide: &[u32],
     dist: &[u32],
 ) -> usize
-    requires { ⌜ Proper (givenTable nodes root starts ends narrow wide) × (length (now dist) ≡ mostNodes) ⌝ }
+    requires { ⌜ Proper (givenTable nodes root starts ends narrow wide) × (length (now dist) ≡ mostNodes) × (profile .ceiling ≤ noCeiling) ⌝ }
     ensures { λ r. ⌜ LeastOffended (lentNet profile nodes root starts ends narrow wide) (lentDist profile dist) (length (lent starts)) r ⌝ }
 {
+    let bars = bars(profile.mark, profile.ceiling, dist);
     let mut least: u16 = 256;
     let mut k: usize = 0;
     while k < starts.len() {
         let next = k + 1;
         let end = ends[k];
-        if link_offends(profile, nodes, root, starts, ends, narrow, wide, dist, k) {
+        if link_offends(profile, nodes, root, starts, ends, narrow, wide, &bars, k) {
             if end < least {
                 least = end;
             }

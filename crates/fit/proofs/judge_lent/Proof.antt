@@ -40,6 +40,7 @@ judge-tree-requires c κs =
       sym (links .ensures) ∙ number-accepts (links .result) (c .before .before .before .number .ensures) (c .before .before .if1 .left),
       c .before .before .before .before .before .before .before .before .before .before .before .pre,
       rw (c .before .narrow .ensures) (omega arith),
+      rw (c .before .narrow .ensures) (omega arith),
     )
 
 returns-2 : tie.Need-returns-2

@@ -28,7 +28,7 @@ first-bad-row-requires : tie.Need-first-bad-row-requires
 first-bad-row-requires c κs = let entry = c .before .before .before .before .before .before .before in (links-proper (links-of entry) (entry .pre .0), entry .pre .1)
 
 least-offended-requires : tie.Need-least-offended-requires
-least-offended-requires c κs = let entry = c .before .before .before .before .before .before .before .before in (links-proper (links-of entry) (entry .pre .0), entry .pre .1 .dist)
+least-offended-requires c κs = let entry = c .before .before .before .before .before .before .before .before in (links-proper (links-of entry) (entry .pre .0), entry .pre .1 .dist, entry .pre .3)
 
 answer-requires : tie.Need-answer-requires
 answer-requires c κs = search needs

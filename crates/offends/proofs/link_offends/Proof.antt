@@ -1,10 +1,20 @@
--- `offends::link_offends` meets its contract: what is read of the link and its ends decides. Assumes nothing.
+-- `offends::link_offends` meets its contract: the bars of the link's ends decide. Assumes nothing.
+use mathlib.Core.Path.{_≡_}
+use Prim.Native.Nat.{_+_, _≤_, _<_}
 use native.Mathlib.Omega.{arith}
+use lib.ListN.{getD}
 use borrow.Author.Needs.{needs}
-use Rattle.offends.proofs.Laws.{offends-reads}
+use Rattle.rules.specs.Net.{Net}
+use Rattle.rules.specs.Columns.{netIn}
+use Rattle.usable.specs.Standing.{tableAt}
 use Rattle.usable.proofs.Reading.{start-has-row, end-has-row}
+use Rattle.offends.proofs.Laws.{offends-less, offends-not}
 use Rattle.offends.proofs.link_offends.Statement.{statement}
 use Rattle.offends.proofs.link_offends.Tie as tie
+
+-- the network that is lent
+abbrev net : tie.Start → Net
+net c = netIn (c .args .profile) (tableAt (c .args .nodes) (c .args .root) (c .args .starts .now) (c .args .ends .now) (c .args .narrow .now) (c .args .wide .now))
 
 mul-from : tie.Need-mul-from
 mul-from c = search needs
@@ -13,7 +23,7 @@ shared-slice-read-from : tie.Need-shared-slice-read-from
 shared-slice-read-from c = search needs
 
 cast-from : tie.Need-cast-from
-cast-from c = omega (arith, c .shared-slice-known6 .given (c .before .before .before .before .before .before .args .k))
+cast-from c = omega (arith, c .shared-slice-known5 .given (c .before .before .before .before .before .args .k))
 
 mul-to : tie.Need-mul-to
 mul-to c = search needs
@@ -22,40 +32,37 @@ shared-slice-read-to : tie.Need-shared-slice-read-to
 shared-slice-read-to c = search needs
 
 cast-to : tie.Need-cast-to
-cast-to c = omega (arith, c .shared-slice-known7 .given (c .before .before .before .before .before .before .before .args .k))
+cast-to c = omega (arith, c .shared-slice-known6 .given (c .before .before .before .before .before .before .args .k))
 
 at-requires : tie.Need-at-requires
-at-requires c κs = omega (arith, c .before .before .before .before .before .before .before .pre .0 .costs-long)
+at-requires c κs = omega (arith, c .before .before .before .before .before .before .pre .0 .costs-long)
 
-mul-offers-less : tie.Need-mul-offers-less
-mul-offers-less c = let pre = c .before .before .before .before .before .before .before .before .pre in omega (arith, start-has-row (pre .0) (pre .2))
+mul-sum : tie.Need-mul-sum
+mul-sum c = let pre = c .before .before .before .before .before .before .before .pre in omega (arith, start-has-row (pre .0) (pre .1))
 
-shared-slice-read-offers-less : tie.Need-shared-slice-read-offers-less
-shared-slice-read-offers-less c = let pre = c .before .before .before .before .before .before .before .before .before .pre in omega (arith, start-has-row (pre .0) (pre .2))
+element-copy-out-sum : tie.Need-element-copy-out-sum
+element-copy-out-sum c = let pre = c .before .before .before .before .before .before .before .pre in omega (arith, start-has-row (pre .0) (pre .1))
 
-mul-offers-less-2 : tie.Need-mul-offers-less-2
-mul-offers-less-2 c = let pre = c .before .before .before .before .before .before .before .before .before .pre in omega (arith, end-has-row (pre .0) (pre .2))
+cast-sum : tie.Need-cast-sum
+cast-sum c = search needs
 
-shared-slice-read-offers-less-2 : tie.Need-shared-slice-read-offers-less-2
-shared-slice-read-offers-less-2 c = let pre = c .before .before .before .before .before .before .before .before .before .before .pre in omega (arith, end-has-row (pre .0) (pre .2))
+add-sum : tie.Need-add-sum
+add-sum c = let pre = c .before .before .before .before .before .before .before .before .pre in omega (arith, pre .2 .low _ (start-has-row (pre .0) (pre .1)))
 
-offers-less-requires : tie.Need-offers-less-requires
-offers-less-requires c κs = search needs
+mul-if1 : tie.Need-mul-if1
+mul-if1 c = let pre = c .before .before .before .before .before .before .before .before .pre in omega (arith, end-has-row (pre .0) (pre .1))
+
+element-copy-out-if1 : tie.Need-element-copy-out-if1
+element-copy-out-if1 c = let pre = c .before .before .before .before .before .before .before .before .pre in omega (arith, end-has-row (pre .0) (pre .1))
 
 usable-requires : tie.Need-usable-requires
-usable-requires c κs = let pre = c .before .before .before .before .before .before .before .before .before .before .before .before .pre in (pre .2, pre .0 .costs-long)
+usable-requires c κs = let pre = c .before .before .before .before .before .before .before .before .before .before .pre in (pre .1, pre .0 .costs-long)
 
 returns : tie.Need-returns
-returns c =
-    let entry = c .before .before .before .before .before .before .before .before .before .before .before .before .before in
-    let reads = offends-reads (entry .args .profile) (entry .pre .0) (entry .args .dist .now) (entry .pre .1) (entry .pre .2) in
-    rw (reads, ← c .before .before .before .before .before .at .ensures, ← c .before .before .offers-less .ensures, c .before .if1 .taken) (c .usable .ensures)
+returns c = let entry = c .before .before .before .before .before .before .before .before .before .before .before in offends-less (net entry) (entry .args .bars .now) (entry .args .k) (omega (arith, c .before .before .before .before .at .ensures, c .before .if1 .taken)) (c .usable .ensures)
 
 returns-2 : tie.Need-returns-2
-returns-2 c =
-    let entry = c .before .before .before .before .before .before .before .before .before .before .before .before in
-    let reads = offends-reads (entry .args .profile) (entry .pre .0) (entry .args .dist .now) (entry .pre .1) (entry .pre .2) in
-    rw (reads, ← c .before .before .before .before .at .ensures, ← c .before .offers-less .ensures, c .if1 .left)
+returns-2 c = let entry = c .before .before .before .before .before .before .before .before .before .before in offends-not (net entry) (entry .args .bars .now) (entry .args .k) (omega (arith, c .before .before .before .at .ensures, c .if1 .left))
 
 pub link-offends-spec : {M : Type 1} → statement M
 link-offends-spec =
@@ -68,11 +75,12 @@ link-offends-spec =
     shared-slice-read-to
     cast-to
     at-requires
-    mul-offers-less
-    shared-slice-read-offers-less
-    mul-offers-less-2
-    shared-slice-read-offers-less-2
-    offers-less-requires
+    mul-sum
+    element-copy-out-sum
+    cast-sum
+    add-sum
+    mul-if1
+    element-copy-out-if1
     usable-requires
     returns
     returns-2)
