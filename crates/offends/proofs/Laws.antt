@@ -1,5 +1,5 @@
 -- The pass over the links, one link further. Assumes nothing.
-use mathlib.Core.Path.{_≡_, refl}
+use mathlib.Core.Path.{_≡_, refl, sym, _∙_}
 use mathlib.Core.Bool.{Bool, true, false, _&&_, true≢false}
 use mathlib.Core.List.{List}
 use Prim.Native.Nat.{ℕ, _+_, _≤_, _<_}
@@ -12,7 +12,7 @@ use Rattle.rules.specs.Tests.{usable}
 use Rattle.rules.specs.Columns.{Table, Proper, netIn, mostNodes}
 use Rattle.rules.specs.declared.Profile.{Profile}
 use Rattle.usable.proofs.Reading.{start-has-row, end-has-row, read-row}
-use Rattle.offends.specs.Offends.{offersLess, offends, Bars, offendsBy, Offended, LeastOffended}
+use Rattle.offends.specs.Offends.{offersLess, offends, Bars, offendsBy, Calm, Offended, LeastOffended}
 use Rattle.offends.proofs.Below.{offers-by-bars}
 
 -- what is read of a link and of its ends decides
@@ -50,14 +50,26 @@ pub offends-not : (N : Net) (bars : List ℕ) (k : ℕ) → getD bars (N .end k)
 unfolding offendsBy
 offends-not N bars k level = rw (le-ltb (getD bars (N .start k) 0 + N .cost k) (getD bars (N .end k) 0) level)
 
+-- no link yet, and one more that doesn't
+pub calm-none : (N : Net) (bars : List ℕ) → Calm N bars 0
+calm-none N bars = record { is-few = omega arith; none = λ k l. absurd (omega arith) }
+
+pub calm-more : {N : Net} {bars : List ℕ} {n : ℕ} {b : Bool} → Calm N bars n → n < N .links → b ≡ offendsBy N bars n → b ≡ false
+    → Calm N bars (n + 1)
+calm-more {N} {bars} {n} h l tells fails = record {
+  is-few = omega arith;
+  none = below-more (λ (k : ℕ). offendsBy N bars k ≡ false) n (h .none) (cc);
+}
+
 offended-more : {N : Net} {dist : ℕ → ℕ} {n v : ℕ} → Offended N dist n v → Offended N dist (n + 1) v
 offended-more o = record { link = o .link; is-link = omega (arith, o .is-link); ends-at = o .ends-at; offends = o .offends }
 
--- no link yet
-pub least-none : (N : Net) (dist : ℕ → ℕ) → LeastOffended N dist 0 mostNodes
-least-none N dist = record {
+-- where none of the first n links offends, none of their ends is told
+pub least-calm : (p : Profile) {t : Table} → Proper t → (ds : List ℕ) → length ds ≡ mostNodes → {bars : List ℕ} {n : ℕ}
+    → Bars (p .mark) (p .ceiling) ds mostNodes bars → Calm (netIn p t) bars n → LeastOffended (netIn p t) (λ v. getD ds v (p .mark)) n mostNodes
+least-calm p proper ds long h calm = record {
   within = omega arith;
-  least = λ k l o. absurd (omega arith);
+  least = λ k l o. absurd (true≢false (sym o ∙ sym (by-bars p proper ds long (omega (arith, calm .is-few)) h) ∙ calm .none k l));
   offended = λ l. absurd (omega arith);
 }
 

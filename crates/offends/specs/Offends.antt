@@ -1,6 +1,6 @@
 -- The pass over the links: which nodes a link offers less than they have. Assumes nothing.
 use mathlib.Core.Path.{_≡_}
-use mathlib.Core.Bool.{Bool, true, _&&_, _||_, not, cond}
+use mathlib.Core.Bool.{Bool, true, false, _&&_, _||_, not, cond}
 use mathlib.Core.List.{List}
 use Prim.Native.Nat.{ℕ, _+_, _≤_, _<_}
 use lib.Dec.{eqb, ltb}
@@ -40,6 +40,11 @@ pub record Low (bars : List ℕ) : Type 0 where
 unfoldable pub offendsBy : Net → List ℕ → ℕ → Bool
 unfolding usable
 offendsBy N bars k = ltb (getD bars (N .start k) 0 + N .cost k) (getD bars (N .end k) 0) && usable N k
+
+-- none of the first n links does
+pub record Calm (N : Net) (bars : List ℕ) (n : ℕ) : Type 0 where
+  pub is-few : n ≤ N .links
+  pub none : (k : ℕ) → k < n → offendsBy N bars k ≡ false
 
 module _ (N : Net) (dist : ℕ → ℕ) where
   -- link k does, and is

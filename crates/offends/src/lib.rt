@@ -5,7 +5,7 @@ ghost use lib.ListN.{length};
 ghost use Rattle.rules.specs.Columns.{Proper, mostNodes, noCeiling};
 ghost use Rattle.rules.specs.Lent.{lent};
 ghost use Rattle.usable.specs.Standing.{givenTable, lentNet, lentDist};
-ghost use Rattle.offends.specs.Offends.{bar, Bars, Low, offendsBy, LeastOffended};
+ghost use Rattle.offends.specs.Offends.{bar, Bars, Low, offendsBy, Calm, LeastOffended};
 use rules::Profile;
 
 const NODES: usize = 256;
@@ -63,6 +63,30 @@ fn link_offends(
     false
 }
 
+// The first link that offends, or the number of links. In a tree that fits none does, and this is all that is asked.
+fn first_offending(
+    profile: Profile,
+    nodes: usize,
+    root: usize,
+    starts: &[u16],
+    ends: &[u16],
+    narrow: &[u16],
+    wide: &[u32],
+    bars: &[u64; 256],
+) -> usize
+    requires { ⌜ Proper (givenTable nodes root starts ends narrow wide) × Low (now bars) ⌝ }
+    ensures { λ r. ⌜ Calm (lentNet profile nodes root starts ends narrow wide) (lent bars) r ⌝ }
+{
+    let mut k: usize = 0;
+    while k < starts.len() {
+        if link_offends(profile, nodes, root, starts, ends, narrow, wide, bars, k) {
+            return k;
+        }
+        k += 1;
+    }
+    k
+}
+
 // The smallest node that a usable link from a reached node offers less than it has, or 256.
 pub fn least_offended(
     profile: Profile,
@@ -79,7 +103,7 @@ pub fn least_offended(
 {
     let bars = bars(profile.mark, profile.ceiling, dist);
     let mut least: u16 = 256;
-    let mut k: usize = 0;
+    let mut k = first_offending(profile, nodes, root, starts, ends, narrow, wide, &bars);
     while k < starts.len() {
         let next = k + 1;
         let end = ends[k];

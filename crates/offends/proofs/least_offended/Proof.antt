@@ -8,7 +8,7 @@ use borrow.Author.Needs.{needs}
 use Rattle.rules.specs.Columns.{netIn}
 use Rattle.usable.specs.Standing.{tableAt}
 use Rattle.offends.specs.Offends.{LeastOffended}
-use Rattle.offends.proofs.Laws.{by-bars, least-none, least-later, least-skip, least-take}
+use Rattle.offends.proofs.Laws.{by-bars, least-calm, least-later, least-skip, least-take}
 use Rattle.offends.proofs.Below.{low}
 use Rattle.offends.proofs.least_offended.Statement.{statement}
 use Rattle.offends.proofs.least_offended.Tie as tie
@@ -23,8 +23,14 @@ abbrev μ-loop : tie.MeasureT-loop
 bars-requires : tie.Need-bars-requires Inv-loop μ-loop
 bars-requires c κs = c .before .before .before .before .before .pre .1
 
+first-offending-requires : tie.Need-first-offending-requires Inv-loop μ-loop
+first-offending-requires c κs = let pre = c .before .before .before .before .before .before .before .pre in (pre .0, low (c .before .bars .ensures) (pre .2))
+
 loop-holds : tie.Need-loop-holds Inv-loop μ-loop
-loop-holds c = (search needs, least-none _ _)
+loop-holds c =
+    let entry = c .before .before .before .before .before .before .before .before in
+    let calm = c .first-offending .ensures in
+    (calm .is-few, least-calm (entry .args .profile) (entry .pre .0) (entry .args .dist .now) (entry .pre .1) (c .before .before .bars .ensures) calm)
 
 add-next : tie.Need-add-next Inv-loop μ-loop
 add-next c = search needs
@@ -36,15 +42,15 @@ shared-slice-read-end : tie.Need-shared-slice-read-end Inv-loop μ-loop
 shared-slice-read-end c = search needs
 
 link-offends-requires : tie.Need-link-offends-requires Inv-loop μ-loop
-link-offends-requires c κs = let pre = c .before .before .before .before .before .before .before .before .before .before .pre in (pre .0, omega arith, low (c .before .before .before .before .bars .ensures) (pre .2))
+link-offends-requires c κs = let pre = c .before .before .before .before .before .before .before .before .before .before .before .before .pre in (pre .0, omega arith, low (c .before .before .before .before .before .before .bars .ensures) (pre .2))
 
 loop-less : tie.Need-loop-less Inv-loop μ-loop
 loop-less c = search needs
 
 loop-again : tie.Need-loop-again Inv-loop μ-loop
 loop-again c =
-    let entry = c .before .before .before .before .before .before .before .before .before .before .before .before .before in
-    let reads = by-bars (entry .args .profile) (entry .pre .0) (entry .args .dist .now) (entry .pre .1) (c .before .before .before .before .before .loop-test .taken) (c .before .before .before .before .before .before .before .bars .ensures) in
+    let entry = c .before .before .before .before .before .before .before .before .before .before .before .before .before .before .before in
+    let reads = by-bars (entry .args .profile) (entry .pre .0) (entry .args .dist .now) (entry .pre .1) (c .before .before .before .before .before .loop-test .taken) (c .before .before .before .before .before .before .before .before .before .bars .ensures) in
     (search needs, least-take (c .before .before .before .before .before .before .loop .inv .1) (c .before .before .link-offends .ensures) reads (c .before .if1 .taken) (c .if2 .taken))
 
 loop-less-2 : tie.Need-loop-less-2 Inv-loop μ-loop
@@ -58,8 +64,8 @@ loop-less-3 c = search needs
 
 loop-again-3 : tie.Need-loop-again-3 Inv-loop μ-loop
 loop-again-3 c =
-    let entry = c .before .before .before .before .before .before .before .before .before .before .before .before in
-    let reads = by-bars (entry .args .profile) (entry .pre .0) (entry .args .dist .now) (entry .pre .1) (c .before .before .before .before .loop-test .taken) (c .before .before .before .before .before .before .bars .ensures) in
+    let entry = c .before .before .before .before .before .before .before .before .before .before .before .before .before .before in
+    let reads = by-bars (entry .args .profile) (entry .pre .0) (entry .args .dist .now) (entry .pre .1) (c .before .before .before .before .loop-test .taken) (c .before .before .before .before .before .before .before .before .bars .ensures) in
     (search needs, least-skip (c .before .before .before .before .before .loop .inv .1) (c .before .link-offends .ensures) reads (c .if1 .left))
 
 cast-result : tie.Need-cast-result Inv-loop μ-loop
@@ -67,7 +73,7 @@ cast-result c = search needs
 
 returns : tie.Need-returns Inv-loop μ-loop
 returns c =
-    let all : c .before .loop .k ≡ length (c .before .before .before .before .before .before .before .before .args .starts .now) = omega arith in
+    let all : c .before .loop .k ≡ length (c .before .before .before .before .before .before .before .before .before .before .args .starts .now) = omega arith in
     rw all at (c .before .loop .inv .1)
 
 pub least-offended-spec : {M : Type 1} → statement M
@@ -77,6 +83,7 @@ least-offended-spec =
     Inv-loop
     μ-loop
     bars-requires
+    first-offending-requires
     loop-holds
     add-next
     mul-end
