@@ -1,4 +1,5 @@
 -- The demands, in their order, with what they rest on.
+pub mod Judged
 pub mod Refused
 pub mod Fits
 pub mod Changed

@@ -176,7 +176,7 @@ module _ {t : Table} (a : Proper t) (tree : Arrays) (w : Whole tree) where
   }
 
 -- an accepted batch with a list that is long enough is accepted, and a refused batch is refused with any list
-long-enough : (t : Table) (old : Arrays) (batch : List Change) (list : List ℕ) → judgeBatch t old batch ≡ accepted → t .nodes ≤ length list → judgeUpdate t old batch list ≡ accepted
+pub long-enough : (t : Table) (old : Arrays) (batch : List Change) (list : List ℕ) → judgeBatch t old batch ≡ accepted → t .nodes ≤ length list → judgeUpdate t old batch list ≡ accepted
 unfolding judgeUpdate
 long-enough t old batch list e l = rw (e, le-ltb (length list) (t .nodes) l) refl
 
@@ -208,12 +208,12 @@ line-holds (path t tree node links) q = λ list l.
 
 -- ---- the table
 
-unfoldable each : List Line → Bool
+unfoldable pub each : List Line → Bool
 unfolding passes
 each [] = true
 each (l ∷ ls) = passes l && each ls
 
-each-holds : (ls : List Line) → T (each ls) → LinesHold ls
+pub each-holds : (ls : List Line) → T (each ls) → LinesHold ls
 unfolding each LinesHold
 each-holds [] q = tt
 each-holds (l ∷ ls) q = (line-holds l (and-l (passes l) (each ls) q), each-holds ls (and-r (passes l) (each ls) q))
