@@ -147,6 +147,11 @@ pub fn check(product: &dyn Product, case: &Case, tally: &mut Tally) -> Result<()
     case.asks.iter().try_for_each(|ask| say.path(product, &table, &tree, ask))
 }
 
+// The first difference of a case by itself.
+pub fn differs(product: &dyn Product, case: &Case) -> Option<String> {
+    check(product, case, &mut Tally::default()).err()
+}
+
 // Each job has given each of its refusals, and acceptance, and nothing else.
 pub fn all_came_up(tally: &Tally) {
     for ((job, numbers), counts) in JOBS.iter().zip(tally) {

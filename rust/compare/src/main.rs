@@ -25,9 +25,10 @@ mod shorten;
 mod shrink;
 mod stated;
 mod streams;
+mod swapped;
 mod wrong;
 
-use case::{all_came_up, check, Ask, Batch, Case, Edit, Entry, Tally, JOBS};
+use case::{all_came_up, check, differs, Ask, Batch, Case, Edit, Entry, Tally, JOBS};
 use make::{Dice, SHAPES};
 use product::{Archive, Product, Safe};
 use reckon::rules;
@@ -46,7 +47,7 @@ impl Comparison {
         if check(product, case, &mut self.tally).is_ok() {
             return;
         }
-        let (case, why) = shrink::smallest(product, case);
+        let (case, why) = shrink::smallest(|case| differs(product, case), case);
         println!("DIFFERS in {name}, seed {seed}: {why}");
         println!("the smallest case found: {case:?}");
         std::process::exit(1);
@@ -239,12 +240,14 @@ fn jobs(from: u64) {
     runs(&mut c, from);
     wrong_input(&mut c, from);
     c.family("the safe interface", |c| safe_interface(c, from + 2_000_000));
+    swapped::compare(from + 3_000_000);
     println!("\ncalls by answer {}", (0..13).map(|n| format!("{n:>9}")).collect::<String>());
     for ((job, _), counts) in JOBS.iter().zip(c.tally) {
         println!("{job:<16}{}", counts.map(|n| format!("{n:>9}")).concat());
     }
     all_came_up(&c.tally);
     guard::tried();
+    swapped::tried();
     wrong::all_found();
     println!("{} cases, {} calls compared in {:.1} s: 0 differ", c.cases, c.calls(), c.began.elapsed().as_secs_f32());
 }

@@ -242,11 +242,8 @@ pub fn from_another(seed: u64, shape: usize, batches: usize) -> Case {
     let (_, fresh) = rules::build(&t);
     let mut tree = fresh.clone();
     for k in 0..t.starts.len() {
-        let (start, end) = (t.starts[k] as usize, t.ends[k] as usize);
-        let tight = t.costs[k] != 0
-            && fresh.dist[start] != UNREACHED
-            && fresh.dist[start] + t.costs[k] as u32 == fresh.dist[end];
-        if end != t.root && tight && dice.one_in(2) {
+        let end = t.ends[k] as usize;
+        if end != t.root && t.tight(&fresh.dist, k) && dice.one_in(2) {
             tree.parent[end] = k as u16;
         }
     }

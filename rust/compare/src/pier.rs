@@ -1,4 +1,4 @@
-// The pier network's table, P1 to P12, by the scope's own numbers: what is reckoned must give them, and the product too.
+// The pier network's table, P1 to P12 and P2's rows in two batches, by the scope's own numbers: what is reckoned must give them, and the product too.
 use crate::case::{Ask, Batch, Case};
 use reckon::rules::{self, Table, Tree, EMPTY, NONE};
 
@@ -18,7 +18,7 @@ const P9: Rows = ([0, 4, 6, 16_777_215], [__, 0, 3, __], [__, 0, 0, __]);
 
 // Batches from a fresh build, the rows that the last one leads to, and the nodes that it changes.
 type Point = (&'static str, &'static [&'static [(u16, u16)]], Rows, &'static [u16]);
-const POINTS: [Point; 8] = [
+const POINTS: [Point; 10] = [
     ("P2", &[&[(3, 5), (0, 2)]], P2, &[1, 2, 3]),
     ("P4", &[&[(3, 5), (0, 2)], &[(3, 6)]], P4, &[2, 3]),
     ("P5", &[&[(3, 5), (0, 2)], &[(3, 6)], &[(3, 5)]], P4, &[]),
@@ -27,6 +27,9 @@ const POINTS: [Point; 8] = [
     ("P8", &[&[(0, 0)]], P8, &[1, 2, 3]),
     ("P9", &[&[(6, 0)]], P9, &[3]),
     ("P10", &[&[(7, 0)]], P1, &[]),
+    // P2's rows in two batches end with another parent, as P5 does, or with P2's own.
+    ("P2's two rows, one after the other,", &[&[(3, 5)], &[(0, 2)]], P4, &[1]),
+    ("P2's two rows, the other way round,", &[&[(0, 2)], &[(3, 5)]], P2, &[2, 3]),
 ];
 
 fn whole(rows: Rows) -> Tree {

@@ -1,6 +1,5 @@
 // The smallest case found that still fails: parts are left out, and numbers made small, as long as it fails.
-use crate::case::{check, Case, Entry, Tally};
-use crate::product::Product;
+use crate::case::{Case, Entry};
 use std::time::{Duration, Instant};
 
 // Leaves out links, and renames the others where rows and edits name them.
@@ -112,9 +111,8 @@ fn smaller(case: &Case) -> Vec<Step> {
     steps
 }
 
-pub fn smallest(product: &dyn Product, case: &Case) -> (Case, String) {
+pub fn smallest(fails: impl Fn(&Case) -> Option<String>, case: &Case) -> (Case, String) {
     let until = Instant::now() + Duration::from_secs(15);
-    let fails = |case: &Case| check(product, case, &mut Tally::default()).err();
     let mut best = (case.clone(), fails(case).expect("it fails"));
     'again: loop {
         for step in smaller(&best.0) {

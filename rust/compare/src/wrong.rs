@@ -1,5 +1,5 @@
 // Products that take a wrong turn. The comparison has to find each of them, or it would not be worth much.
-use crate::case::{check, Case, Tally};
+use crate::case::{differs, Case};
 use crate::make;
 use crate::product::{rows_mut, Answer, Archive, Product};
 use crate::shrink;
@@ -20,7 +20,7 @@ enum Turn {
     Path(fn(&Table, &Tree, usize, &mut [u16]) -> Answer),
 }
 
-const TURNS: [Wrong; 14] = [
+static TURNS: [Wrong; 14] = [
     Wrong { name: "rebuilds from nothing", turn: Turn::Update(rebuilds) },
     Wrong { name: "raises, then lowers", turn: Turn::Update(raises_then_lowers) },
     Wrong { name: "tells a link by its end nodes", turn: Turn::Update(tells_by_ends) },
@@ -259,6 +259,11 @@ fn upward(t: &Table, tree: &Tree, asked: usize, list: &mut [u16]) -> Answer {
     told
 }
 
+// The product that takes this turn.
+pub fn named(name: &str) -> &'static dyn Product {
+    TURNS.iter().find(|wrong| wrong.name == name).expect("a turn of this name")
+}
+
 // ---- finding them
 
 // A case that tells the product from what is reckoned, among a few thousand.
@@ -271,7 +276,7 @@ fn found(product: &dyn Product) -> Option<(u64, Case)> {
             3 => make::malformed(seed),
             _ => make::from_another(seed, 0, 4),
         };
-        check(product, &case, &mut Tally::default()).is_err().then_some((seed, case))
+        differs(product, &case).is_some().then_some((seed, case))
     })
 }
 
@@ -282,7 +287,7 @@ pub fn all_found() {
             println!("NOT FOUND: a product that {}", wrong.name);
             std::process::exit(1);
         };
-        let (case, _) = shrink::smallest(wrong, &case);
+        let (case, _) = shrink::smallest(|case| differs(wrong, case), &case);
         let rows = case.batches.iter().map(|batch| batch.links.len()).sum::<usize>();
         println!("{:<44} seed {seed:>4}: {} nodes, {} links, {rows} rows", wrong.name, case.nodes, case.starts.len());
     }

@@ -45,7 +45,7 @@ impl Table<'_> {
         let d = dist[self.start(link)];
         (self.usable(link) && d != UNREACHED).then(|| d as u64 + self.costs[link] as u64)
     }
-    fn tight(&self, dist: &[u32; NODES], link: usize) -> bool {
+    pub fn tight(&self, dist: &[u32; NODES], link: usize) -> bool {
         self.offer(dist, link) == Some(dist[self.end(link)] as u64)
     }
 }
