@@ -27,6 +27,7 @@ use Rattle.outcomes.proofs.Costs.{steps-fit}
 use Rattle.outcomes.proofs.Led.{asks-given}
 use Rattle.turn.specs.Turns.{Turns, too-long, reads}
 use Rattle.turns.specs.Filling.{Tells, none as no-turn, then}
+use Rattle.printed.specs.Least.{ReadFrom}
 
 -- what stands in a stream of bytes has a 16-bit cost, if any
 read-fits : {stream : List ℕ} → AreBytes stream → {place : ℕ} {read : Read} → StandsStill stream place read → CostFits (read .item)
@@ -50,18 +51,20 @@ pub tells-fit : {stream : List ℕ} {place next turns : ℕ} {s r : State} {k af
 tells-fit bytes f no-turn = f
 tells-fit bytes f (then before turn) = turn-fits bytes (tells-fit bytes f before) turn
 
-record LedTo (from : State) (lent : Lists) (s : State) (k : Lists) : Type 0 where
+-- what was read, and that it led there
+pub record LedTo (stream : List ℕ) (start : ℕ) (from : State) (lent : Lists) (s : State) (k : Lists) (place : ℕ) : Type 0 where
   pub items : List Item
+  pub read : ReadFrom stream start items place
   pub led : Led from lent items s k
 
 -- turns with more behind them are records
-tells-led : {stream : List ℕ} {place after-place turns : ℕ} {s r : State} {k after : Lists} {told : List ℕ} {goes : Bool} → Tells stream place s k turns told r after after-place goes
-    → goes ≡ true → LedTo s k r after
-tells-led no-turn e = record { items = []; led = none }
+pub tells-led : {stream : List ℕ} {place after-place turns : ℕ} {s r : State} {k after : Lists} {told : List ℕ} {goes : Bool} → Tells stream place s k turns told r after after-place goes
+    → goes ≡ true → LedTo stream place s k r after after-place
+tells-led no-turn e = record { items = []; read = ReadFrom.none; led = none }
 tells-led (then before (too-long l)) e = absurd (both e refl)
 tells-led {stream} (then {next = at} before (reads few steps)) e =
     let led = tells-led before refl in
-    record { items = readAt stream at .item ∷ led .items; led = next (led .led) steps }
+    record { items = readAt stream at .item ∷ led .items; read = ReadFrom.next (led .read); led = next (led .led) steps }
 
 -- an ASK in order, wherever it stands in a stream of bytes, tells the row of the tree that the rules give for the links and the
 -- changes applied so far; its distances are the least sums over the links then usable

@@ -7,3 +7,4 @@ pub mod Ways
 pub mod Alike
 pub mod Once
 pub mod Costs
+pub mod Least

@@ -8,7 +8,7 @@ use Rattle.reader.specs.declared.Reader.{Reader}
 use Rattle.reader.specs.declared.Step.{Step}
 use Rattle.stream.specs.declared.Item.{Item}
 use Rattle.stream.specs.declared.Read.{Read}
-use Rattle.stream.specs.Records.{readAt, isRecord}
+use Rattle.stream.specs.Records.{toldAt, nextBy, told, readAt, isRecord}
 
 -- a new reader stands at the first byte
 abbrev pub atStart : RefT (List ℕ) → Reader
@@ -17,6 +17,13 @@ atStart stream = record { stream = stream; place = 0 }
 -- the same stream, at another place
 abbrev pub movedTo : Reader → ℕ → Reader
 movedTo r place = record { stream = r .stream; place = place }
+
+-- what the reader hands back: what stands at its place, in 01's numbers, and the reader at the next place
+pub record HandsOn (r : Reader) (step : Step) : Type 0 where
+  pub tells : told (step .item) ≡ toldAt (now (r .stream)) (r .place)
+  pub moved : step .reader ≡ movedTo r (nextBy (toldAt (now (r .stream)) (r .place)) (r .place))
+
+-- ---- the same in the code's items: proofs/Laws.antt shows that this is the one step that tells it
 
 -- what stands at the reader's place
 abbrev pub readOf : Reader → Read

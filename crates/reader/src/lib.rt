@@ -1,7 +1,7 @@
 // The reader of the record stream as a struct that carries the stream together with its place, thin over
 // `stream::read_at`.
 ghost use mathlib.Core.Path.{_≡_};
-ghost use Rattle.reader.specs.Reading.{atStart, stepOf};
+ghost use Rattle.reader.specs.Reading.{atStart, HandsOn};
 use stream::Item;
 
 pub struct Reader<'a> {
@@ -25,7 +25,7 @@ impl<'a> Reader<'a> {
 
     // The next record, the end or a refusal. At the end and after a refusal the place stands still.
     pub fn next(self) -> Step<'a>
-        ensures { λ r. ⌜ r ≡ stepOf (self .entry) ⌝ }
+        ensures { λ r. ⌜ HandsOn (self .entry) r ⌝ }
     {
         let read = stream::read_at(self.stream, self.place);
         Step {

@@ -5,20 +5,20 @@ use mathlib.Core.List.{List, [], _∷_, _++_}
 use Prim.Native.Nat.{ℕ, zero, suc, _+_, _≤_, _<_}
 use native.Mathlib.Omega.{arith}
 use lib.Dec.{ltb}
-use lib.ListN.{length, set, take, length-append, length-take, length-drop, length-set}
+use lib.ListN.{length, take, length-append, length-take, length-drop, length-set}
 use lib.Seq.{length-take-le, length-front}
-use borrow.Author.Tests.{le-ltb, ltb-false}
-use Rattle.rules.specs.Fit.{Rows, Fits}
-use Rattle.rules.specs.Tests.{firstBelow, breaks}
-use Rattle.rules.specs.Columns.{Table, Arrays, table, netOf, rowsOf, after, mostLinks, mostRows, mostNodes}
-use Rattle.rules.specs.Refusals.{Verdict, accepted, refused, _then_, when, whenOne, judgeLinks, judgeTree, judgeRows, firstBadRow}
+use borrow.Author.Tests.{ltb-false}
+use Rattle.rules.specs.Fit.{Rows}
+use Rattle.rules.specs.Tests.{firstBelow}
+use Rattle.rules.specs.Columns.{Table, Arrays, table, rowsOf, after, mostLinks, mostRows, mostNodes}
+use Rattle.rules.specs.Refusals.{Verdict, accepted, refused, _then_, when, judgeLinks, judgeTree, judgeRows, firstBadRow}
 use Rattle.rules.specs.Jobs.{differs, changedBelow}
 use Rattle.rules.specs.declared.Change.{Change as CostChange}
-use Rattle.rules.proofs.Logic.{First, first-is, T-true, T-false, true-false}
-use Rattle.rules.proofs.Check.{breaks-rule}
+use Rattle.rules.proofs.Logic.{true-false}
 use Rattle.rules.proofs.Judged.{then-first, then-second, when-not, links-proper}
 use Rattle.rules.proofs.OneOutcome.{tree-links, length-applied}
 use Rattle.rules.proofs.Accepted.{built-good, update-accept, update-good}
+use Rattle.demands.proofs.Judged.{fits-accepted, after-accepted}
 use Rattle.batch.specs.Rows.{rowsOfColumns}
 use Rattle.batch.proofs.Laws.{links-fewer}
 use Rattle.tree.specs.Value.{arraysOf}
@@ -27,14 +27,14 @@ use Rattle.stream.specs.declared.Item.the-variants.{Network, Link, Change, Appl
 use Rattle.order.specs.declared.Phase.{Phase}
 use Rattle.order.specs.declared.Phase.the-variants.{Unread, Linking, Routing}
 use Rattle.order.specs.Order.{isUnread, isLinking, inOrder}
-use Rattle.enter.specs.More.{oneMore, judgeWaiting}
+use Rattle.enter.specs.More.{oneMore}
 use Rattle.enter.proofs.Entries.{entry-length, entry-written}
 use Rattle.state.specs.declared.State.{State}
 use Rattle.state.specs.declared.Done.{Done}
 use Rattle.state.specs.declared.Out.{Out}
 use Rattle.state.specs.declared.Out.the-variants.{Nothing}
 use Rattle.state.specs.States.{tableOf, waiting, refusing, networked, linked, changing, asked}
-use Rattle.session.specs.Holding.{Columns, TableStands, Lent, TreeStands, Lists, lists, tableIn, treeIn, lentIn, Holds, unread, linking, routing}
+use Rattle.session.specs.Holding.{Columns, TableStands, TreeStands, Lists, lists, tableIn, treeIn, lentIn, Holds, unread, linking, routing}
 use Rattle.session.specs.Steps.{linkVerdict, linkLists, changeVerdict, changeLists, Begun, Applied, Ready, begins, stays, Steps, out-of-order, unknown, cut, ended, network, link, change, apply, ask}
 use Rattle.session.specs.Parts.{LinkTaken, RowTaken}
 
@@ -80,25 +80,6 @@ tree-of (linking p t l) q = absurd (true-false (ap isLinking (sym p ∙ q)))
 tree-of (routing p t l) q = t
 
 -- ---- judging what stands
-
-none-whenOne : (p : ℕ → Bool) (n number : ℕ) → First p n n → whenOne n p number ≡ accepted
-none-whenOne p n number f = rw (first-is f, le-ltb n n (omega arith)) refl
-
--- a tree that fits an accepted table is accepted
-fits-accepted : (t : Table) (tree : Arrays) → judgeLinks t ≡ accepted → Fits (netOf t) (rowsOf tree) → judgeTree t tree ≡ accepted
-unfolding judgeTree
-fits-accepted t tree e f =
-    let none : First (breaks (netOf t) (rowsOf tree)) mostNodes mostNodes = record {
-      within = omega arith;
-      before = λ v l. T-false (breaks (netOf t) (rowsOf tree) v) (λ b. breaks-rule (netOf t) (rowsOf tree) v (T-true (breaks (netOf t) (rowsOf tree) v) b) (f .row v));
-      passes = λ l. absurd (omega arith);
-    } in
-    ap (λ (v : Verdict). v then whenOne mostNodes (breaks (netOf t) (rowsOf tree)) 6) e ∙ none-whenOne (breaks (netOf t) (rowsOf tree)) mostNodes 6 none
-
--- costs don't matter to a table's verdict
-after-accepted : (t : Table) (batch : List CostChange) → judgeLinks t ≡ accepted → judgeLinks (after t batch) ≡ accepted
-unfolding judgeLinks
-after-accepted t batch e = rw (length-applied batch (t .costs)) e
 
 no-rows-accepted : (t : Table) → judgeRows t [] ≡ accepted
 unfolding judgeRows firstBadRow firstBelow

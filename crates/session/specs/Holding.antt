@@ -3,7 +3,10 @@ use mathlib.Core.Path.{_≡_}
 use mathlib.Core.List.{List}
 use Prim.Native.Nat.{ℕ, _≤_}
 use lib.ListN.{length}
+use denote.Ref.{RefT, now}
+use denote.Triple.Both.{Both}
 use Rattle.rules.specs.Columns.{Whole, mostLinks, mostRows, mostNodes}
+use Rattle.rules.specs.Lent.{lent, left}
 use Rattle.rules.specs.Refusals.{accepted, judgeLinks, judgeTree, judgeRows}
 use Rattle.order.specs.declared.Phase.the-variants.{Unread, Linking, Routing}
 use Rattle.tree.specs.Value.{arraysOf}
@@ -50,6 +53,19 @@ pub record Lists : Type 0 where
 abbrev pub lists : List ℕ → List ℕ → List ℕ → List ℕ → List ℕ → List ℕ → Lists
 lists starts ends costs changed newcosts list =
     record { starts = starts; ends = ends; costs = costs; changed = changed; newcosts = newcosts; list = list }
+
+-- the six as a promise names them: those passed, those as they stood when the call began, and as they stand after it
+abbrev pub listsAt : RefT (List ℕ) → RefT (List ℕ) → RefT (List ℕ) → RefT (List ℕ) → RefT (List ℕ) → RefT (List ℕ) → Lists
+listsAt starts ends costs changed newcosts list = lists (now starts) (now ends) (now costs) (now changed) (now newcosts) (now list)
+
+module _ {A B C D E F : Type 0} where
+  abbrev pub lentLists : Both (RefT (List ℕ)) A → Both (RefT (List ℕ)) B → Both (RefT (List ℕ)) C → Both (RefT (List ℕ)) D → Both (RefT (List ℕ)) E
+      → Both (RefT (List ℕ)) F → Lists
+  lentLists starts ends costs changed newcosts list = lists (lent starts) (lent ends) (lent costs) (lent changed) (lent newcosts) (lent list)
+
+  abbrev pub leftLists : Both A (RefT (List ℕ)) → Both B (RefT (List ℕ)) → Both C (RefT (List ℕ)) → Both D (RefT (List ℕ)) → Both E (RefT (List ℕ))
+      → Both F (RefT (List ℕ)) → Lists
+  leftLists starts ends costs changed newcosts list = lists (left starts) (left ends) (left costs) (left changed) (left newcosts) (left list)
 
 abbrev pub tableIn : State → Lists → Type 0
 tableIn s k = TableStands s (k .starts) (k .ends) (k .costs)

@@ -18,7 +18,7 @@ use Rattle.state.specs.declared.Out.the-variants.{Nothing}
 use Rattle.state.specs.declared.State.{State}
 use Rattle.state.specs.declared.Done.{Done}
 use Rattle.state.specs.States.{tableOf, waiting, refusing, networked, linked, changing, begun, applied, asked}
-use Rattle.session.specs.Holding.{Lists, lists}
+use Rattle.session.specs.Holding.{Lists, lists, Holds}
 
 -- LINK: 3 to 5 of the table with this link as its last, which is written where it is accepted
 abbrev pub linkVerdict : State → Lists → ℕ → ℕ → ℕ → Verdict
@@ -73,3 +73,7 @@ pub data Steps (s : State) (k : Lists) : Item → Done → Lists → Type 0 wher
       → Applied r (k .starts) (k .ends) (k .costs) (k .changed) (k .newcosts) (k .list) done costs list
       → Steps s k Apply done (lists (k .starts) (k .ends) costs (k .changed) (k .newcosts) list)
   ask : {node : ℕ} {r : State} → Ready s k r → Steps s k (Ask node) (record { state = r; out = asked r node }) k
+
+-- and what holds between records holds after it
+abbrev pub Stepped : State → Lists → Item → Done → Lists → Type 0
+Stepped s k item d l = Steps s k item d l × Holds (d .state) l

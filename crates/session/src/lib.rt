@@ -6,10 +6,11 @@ ghost use Prim.Native.Nat.{_≤_};
 ghost use lib.ListN.{length};
 ghost use Rattle.rules.specs.Columns.{table, mostLinks, mostRows};
 ghost use Rattle.rules.specs.Refusals.{judgeLinks};
+ghost use Rattle.rules.specs.Lent.{lent, left};
 ghost use Rattle.order.specs.Order.{isUnread};
 ghost use Rattle.state.specs.States.{networked};
-ghost use Rattle.session.specs.Holding.{Columns, TableStands, TreeStands, Lent, lists, treeIn, Holds};
-ghost use Rattle.session.specs.Steps.{Begun, Applied, Ready, Steps};
+ghost use Rattle.session.specs.Holding.{Columns, TableStands, TreeStands, Lent, listsAt, lentLists, leftLists, treeIn, Holds};
+ghost use Rattle.session.specs.Steps.{Begun, Applied, Ready, Stepped};
 ghost use Rattle.session.specs.Parts.{LinkTaken, RowTaken};
 use state::Done;
 use state::Out;
@@ -43,7 +44,7 @@ fn link(
     costs: &mut [u16],
 ) -> Done
     requires { ⌜ (state .links ≤ mostLinks) × Columns (now starts) (now ends) (now costs) ⌝ }
-    ensures { λ r. ⌜ LinkTaken state (now (starts .entry)) (now (ends .entry)) (now (costs .entry)) start end cost r (now (starts .exit)) (now (ends .exit)) (now (costs .exit)) ⌝ }
+    ensures { λ r. ⌜ LinkTaken state (lent starts) (lent ends) (lent costs) start end cost r (left starts) (left ends) (left costs) ⌝ }
 {
     let answer = enter::enter_link(
         state.nodes,
@@ -65,7 +66,7 @@ fn link(
 // The first record after the LINKs: a fresh tree over the table that they made.
 fn begin(state: State, starts: &[u16], ends: &[u16], costs: &[u16]) -> State
     requires { ⌜ TableStands state (now starts) (now ends) (now costs) ⌝ }
-    ensures { λ r. ⌜ Begun state (now (starts .entry)) (now (ends .entry)) (now (costs .entry)) r ⌝ }
+    ensures { λ r. ⌜ Begun state (lent starts) (lent ends) (lent costs) r ⌝ }
 {
     let links = state.links;
     let built = Tree::build(
@@ -82,7 +83,7 @@ fn begin(state: State, starts: &[u16], ends: &[u16], costs: &[u16]) -> State
 // CHANGE: refusals 7 to 9 of the rows that wait with this one as the last.
 fn change(state: State, link: u16, cost: u16, changed: &mut [u16], newcosts: &mut [u16]) -> Done
     requires { ⌜ (state .rows ≤ mostRows) × (length (now changed) ≡ mostRows) × (length (now newcosts) ≡ mostRows) ⌝ }
-    ensures { λ r. ⌜ RowTaken state (now (changed .entry)) (now (newcosts .entry)) link cost r (now (changed .exit)) (now (newcosts .exit)) ⌝ }
+    ensures { λ r. ⌜ RowTaken state (lent changed) (lent newcosts) link cost r (left changed) (left newcosts) ⌝ }
 {
     let answer = enter::enter_change(state.links, state.rows, link, cost, changed, newcosts);
     let number = rules::number(answer);
@@ -103,7 +104,7 @@ fn apply(
     list: &mut [u16],
 ) -> Done
     requires { ⌜ TreeStands state (now starts) (now ends) (now costs) (now changed) (now newcosts) × Lent (now changed) (now newcosts) (now list) ⌝ }
-    ensures { λ r. ⌜ Applied state (now (starts .entry)) (now (ends .entry)) (now (costs .entry)) (now (changed .entry)) (now (newcosts .entry)) (now (list .entry)) r (now (costs .exit)) (now (list .exit)) ⌝ }
+    ensures { λ r. ⌜ Applied state (lent starts) (lent ends) (lent costs) (lent changed) (lent newcosts) (lent list) r (left costs) (left list) ⌝ }
 {
     let links = state.links;
     let rows = state.rows;
@@ -132,8 +133,8 @@ fn ready(
     newcosts: &[u16],
     list: &[u16],
 ) -> State
-    requires { ⌜ Holds state (lists (now starts) (now ends) (now costs) (now changed) (now newcosts) (now list)) × (isUnread (state .phase) ≡ false) ⌝ }
-    ensures { λ r. ⌜ Ready state (lists (now (starts .entry)) (now (ends .entry)) (now (costs .entry)) (now (changed .entry)) (now (newcosts .entry)) (now (list .entry))) r × treeIn r (lists (now (starts .entry)) (now (ends .entry)) (now (costs .entry)) (now (changed .entry)) (now (newcosts .entry)) (now (list .entry))) ⌝ }
+    requires { ⌜ Holds state (listsAt starts ends costs changed newcosts list) × (isUnread (state .phase) ≡ false) ⌝ }
+    ensures { λ r. ⌜ Ready state (lentLists starts ends costs changed newcosts list) r × treeIn r (lentLists starts ends costs changed newcosts list) ⌝ }
 {
     let phase = state.phase;
     if order::is_linking(phase) {
@@ -153,8 +154,8 @@ pub fn step(
     newcosts: &mut [u16],
     list: &mut [u16],
 ) -> Done
-    requires { ⌜ Holds state (lists (now starts) (now ends) (now costs) (now changed) (now newcosts) (now list)) ⌝ }
-    ensures { λ r. ⌜ Steps state (lists (now (starts .entry)) (now (ends .entry)) (now (costs .entry)) (now (changed .entry)) (now (newcosts .entry)) (now (list .entry))) item r (lists (now (starts .exit)) (now (ends .exit)) (now (costs .exit)) (now (changed .exit)) (now (newcosts .exit)) (now (list .exit))) × Holds (r .state) (lists (now (starts .exit)) (now (ends .exit)) (now (costs .exit)) (now (changed .exit)) (now (newcosts .exit)) (now (list .exit))) ⌝ }
+    requires { ⌜ Holds state (listsAt starts ends costs changed newcosts list) ⌝ }
+    ensures { λ r. ⌜ Stepped state (lentLists starts ends costs changed newcosts list) item r (leftLists starts ends costs changed newcosts list) ⌝ }
 {
     let phase = state.phase;
     if !order::in_order(phase, item) {

@@ -81,11 +81,20 @@ asked s node =
     cond (leb (s .nodes) node) (Refused 10)
     (Row node (rowsOf (arraysOf (s .tree)) .dist node) (rowsOf (arraysOf (s .tree)) .parent node) (rowsOf (arraysOf (s .tree)) .first node))
 
+-- what each case of what a record tells means in 01: a refusal with its number, or none. (A place is known to whoever
+-- read the record; of a row and of changed nodes the case has all that is printed.)
+abbrev pub verdictOf : Out → Verdict
+verdictOf Nothing = accepted
+verdictOf (Row node dist parent first) = accepted
+verdictOf (Changed count) = accepted
+verdictOf (Refused number) = refused number 0
+
+abbrev pub isRefused : Verdict → Bool
+isRefused accepted = false
+isRefused (refused number value) = true
+
 abbrev pub isRefusal : Out → Bool
-isRefusal Nothing = false
-isRefusal (Row node dist parent first) = false
-isRefusal (Changed count) = false
-isRefusal (Refused number) = true
+isRefusal out = isRefused (verdictOf out)
 
 -- after a refusal nothing more is read, and so it is at the end
 abbrev pub goesOn : Item → Out → Bool

@@ -1,7 +1,8 @@
 // One turn of a stream: the item at a place is read, does what it does, and its line is put into a lent text.
 ghost use Prim.Native.Nat.{_+_, _≤_};
 ghost use lib.ListN.{length};
-ghost use Rattle.session.specs.Holding.{lists, Holds};
+ghost use Rattle.rules.specs.Lent.{lent, left};
+ghost use Rattle.session.specs.Holding.{listsAt, lentLists, leftLists, Holds};
 ghost use Rattle.lines.specs.Lines.{lineRoom};
 ghost use Rattle.turn.specs.Turns.{Turned};
 use state::Out;
@@ -33,8 +34,8 @@ pub fn take_turn(
     list: &mut [u16],
     text: &mut [u8],
 ) -> Turn
-    requires { ⌜ Holds («so_far» .state) (lists (now starts) (now ends) (now costs) (now changed) (now newcosts) (now list)) × («so_far» .end + lineRoom ≤ length (now text)) ⌝ }
-    ensures { λ r. ⌜ Turned (now (stream .entry)) («so_far» .next) («so_far» .state) (lists (now (starts .entry)) (now (ends .entry)) (now (costs .entry)) (now (changed .entry)) (now (newcosts .entry)) (now (list .entry))) (now (text .entry)) («so_far» .end) r (lists (now (starts .exit)) (now (ends .exit)) (now (costs .exit)) (now (changed .exit)) (now (newcosts .exit)) (now (list .exit))) (now (text .exit)) ⌝ }
+    requires { ⌜ Holds («so_far» .state) (listsAt starts ends costs changed newcosts list) × («so_far» .end + lineRoom ≤ length (now text)) ⌝ }
+    ensures { λ r. ⌜ Turned (lent stream) («so_far» .next) («so_far» .state) (lentLists starts ends costs changed newcosts list) (lent text) («so_far» .end) r (leftLists starts ends costs changed newcosts list) (left text) ⌝ }
 {
     let place = so_far.next;
     let at = so_far.end;

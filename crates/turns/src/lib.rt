@@ -1,7 +1,8 @@
 // Turn after turn: what they tell, put into a lent text line behind line.
 ghost use Prim.Native.Nat.{_≤_};
 ghost use lib.ListN.{length};
-ghost use Rattle.session.specs.Holding.{lists, Holds};
+ghost use Rattle.rules.specs.Lent.{lent, left};
+ghost use Rattle.session.specs.Holding.{listsAt, lentLists, leftLists, Holds};
 ghost use Rattle.lines.specs.Lines.{lineRoom};
 ghost use Rattle.turns.specs.Filling.{Filled};
 use state::State;
@@ -21,8 +22,8 @@ pub fn fill(
     list: &mut [u16],
     text: &mut [u8],
 ) -> Turn
-    requires { ⌜ Holds state (lists (now starts) (now ends) (now costs) (now changed) (now newcosts) (now list)) × (lineRoom ≤ length (now text)) ⌝ }
-    ensures { λ r. ⌜ Filled (now (stream .entry)) place state (lists (now (starts .entry)) (now (ends .entry)) (now (costs .entry)) (now (changed .entry)) (now (newcosts .entry)) (now (list .entry))) (now (text .entry)) r (lists (now (starts .exit)) (now (ends .exit)) (now (costs .exit)) (now (changed .exit)) (now (newcosts .exit)) (now (list .exit))) (now (text .exit)) ⌝ }
+    requires { ⌜ Holds state (listsAt starts ends costs changed newcosts list) × (lineRoom ≤ length (now text)) ⌝ }
+    ensures { λ r. ⌜ Filled (lent stream) place state (lentLists starts ends costs changed newcosts list) (lent text) r (leftLists starts ends costs changed newcosts list) (left text) ⌝ }
 {
     let mut turn = Turn {
         state: state,

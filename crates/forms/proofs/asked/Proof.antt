@@ -25,7 +25,7 @@ use Rattle.stream.proofs.Item as S
 use Rattle.stream.proofs.Item.Laws as S′
 use Rattle.stream.proofs.Read as R
 use Rattle.stream.proofs.Read.Laws as R′
-use Rattle.reader.specs.Reading.{atStart, stepOf}
+use Rattle.reader.specs.Reading.{atStart, HandsOn}
 use Rattle.reader.specs.declared.Reader.{Reader}
 use Rattle.reader.specs.declared.Step.{Step}
 use Rattle.reader.proofs.Reader as T
@@ -205,7 +205,7 @@ module _ {M : Type 1} (𝓤 : URA M) (H : Heap 𝓤) (A : Atoms 𝓤) (W : Given
         assigns ! (of-opd ! (load ! (from ! (fld ! refl (stop !))) (look-in ! 14 (sub ! 0 refl (whole !))))) (from ! (stop !)) (init ! 6 refl (reader-typed (i .step) (i .is))) $
         move ! (23 ∷ []) $ use1 W (‵ (OwnReader r (T′.lowered r))) (reader-of (i .step)) $ move ! (0 ∷ 23 ∷ []) $ use2 W (raw (Next 𝓤 H A mem run .pre (given-reader r (T′.lowered r)))) (goes-next r (T′.lowered r)) $
         -- [what `next` asks; _10; …; _0; …; what the stream owns]
-        calls-told ! (fmOf 𝓤 H (W .laws) 𝓣) next.ended (next.clauses 𝓤 H A mem run) known-next (given-reader r (T′.lowered r)) token (id⊢ 𝓤 _) (λ p. p ≡ stepOf r) (λ p e. id⊢ 𝓤 _)
+        calls-told ! (fmOf 𝓤 H (W .laws) 𝓣) next.ended (next.clauses 𝓤 H A mem run) known-next (given-reader r (T′.lowered r)) token (id⊢ 𝓤 _) (λ p. HandsOn r p) (λ p e. id⊢ 𝓤 _)
         (and-then ! (load ! (from ! (stop !)) (look ! 7 refl)) (no-more !)) (λ w p told.
         -- [what the step owns; the token; _10; …; _0; …; what the stream owns]
         peeks ! (P.the-row α) (Is (P.the-row α)) (shows 𝓤 H A (P.the-row α)) p (w ∷ []) (λ is. land ! (from ! (stop !)) (store ! 16 refl (step-typed p w is)) $
@@ -264,7 +264,7 @@ module _ {M : Type 1} (𝓤 : URA M) (H : Heap 𝓤) (A : Atoms 𝓤) (W : Given
         (and-then ! (load ! (from ! (stop !)) (look ! 20 refl)) (no-more !)) (λ u r started.
         peeks ! (T.the-row α) (Is (T.the-row α)) (shows 𝓤 H A (T.the-row α)) r (u ∷ []) (λ r-is. land ! (from ! (stop !)) (init ! 13 refl (LL.lawful (T.the-type αᵉ) (T′.the-laws αᵉ) 𝓤 H A W .typed r _ r-is .0)) $
         use2 W (raw (Next 𝓤 H A mem run .pre (given-reader r u))) (goes-next r u) $
-        calls-told ! (fmOf 𝓤 H (W .laws) 𝓣) next.ended (next.clauses 𝓤 H A mem run) known-next (given-reader r u) token (id⊢ 𝓤 _) (λ p. p ≡ stepOf r) (λ p e. id⊢ 𝓤 _)
+        calls-told ! (fmOf 𝓤 H (W .laws) 𝓣) next.ended (next.clauses 𝓤 H A mem run) known-next (given-reader r u) token (id⊢ 𝓤 _) (λ p. HandsOn r p) (λ p e. id⊢ 𝓤 _)
         (and-then ! (load ! (from ! (stop !)) (look ! 12 refl)) (no-more !)) (λ w p told.
         -- [what the step owns; the token; what the stream owns; _10; …; _0; …]
         peeks ! (P.the-row α) (Is (P.the-row α)) (shows 𝓤 H A (P.the-row α)) p (w ∷ []) (λ is. land ! (from ! (stop !)) (init ! 17 refl (step-typed p w is)) $

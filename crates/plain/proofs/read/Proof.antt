@@ -1,5 +1,6 @@
 -- `plain::read` meets its contract: what is handed back is what the reader gives. Assumes nothing.
 use borrow.Author.Needs.{needs}
+use Rattle.stream.proofs.Laws.{given-is}
 use Rattle.plain.proofs.Readings.{hands-back}
 use Rattle.plain.proofs.read.Statement.{statement}
 use Rattle.plain.proofs.read.Tie as tie
@@ -15,7 +16,7 @@ number-requires c κs = search needs
 
 returns : tie.Need-returns
 returns c =
-    hands-back (c .before .before .before .read-at .ensures) (c .before .before .take-apart .ensures) (c .number .ensures)
+    hands-back (given-is (c .before .before .before .read-at .ensures)) (c .before .before .take-apart .ensures) (c .number .ensures)
 
 pub read-spec : {M : Type 1} → statement M
 read-spec =

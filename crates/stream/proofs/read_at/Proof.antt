@@ -6,7 +6,7 @@ use borrow.Author.Needs.{needs}
 use lib.ListN.{getD}
 use Rattle.stream.specs.declared.Body.the-variants.{Bytes}
 use Rattle.stream.specs.Records.{bodyLength}
-use Rattle.stream.proofs.Laws.{reads-end, reads-unknown, reads-cut, reads-record}
+use Rattle.stream.proofs.Laws.{reads-end, reads-unknown, reads-cut, reads-record, is-given}
 use Rattle.stream.proofs.read_at.Statement.{statement}
 use Rattle.stream.proofs.read_at.Tie as tie
 
@@ -20,7 +20,7 @@ stay-requires c κs = search needs
 returns : tie.Need-returns
 returns c =
     let given = c .before .before .before .args in
-    c .stay .ensures ∙ reads-end (given .stream .now) (given .place) (c .before .if1 .taken)
+    is-given (given .stream .now) (given .place) (c .stay .ensures ∙ reads-end (given .stream .now) (given .place) (c .before .if1 .taken))
 
 shared-slice-read-kind : tie.Need-shared-slice-read-kind
 shared-slice-read-kind c = search needs
@@ -44,7 +44,8 @@ returns-2 : tie.Need-returns-2
 returns-2 c =
     let given = c .before .before .before .before .before .before .before .args in
     let unknown = sym (c .before .before .before .body-length .ensures) ∙ c .before .enum-told .given .1 in
-    c .stay2 .ensures ∙ reads-unknown (given .stream .now) (given .place) (c .before .before .before .before .before .if1 .left) unknown
+    is-given (given .stream .now) (given .place)
+    (c .stay2 .ensures ∙ reads-unknown (given .stream .now) (given .place) (c .before .before .before .before .before .if1 .left) unknown)
 
 sub-if2 : tie.Need-sub-if2
 sub-if2 c = search needs
@@ -55,7 +56,8 @@ stay-requires-3 c κs = search needs
 returns-3 : tie.Need-returns-3
 returns-3 c =
     let given = c .before .before .before .before .before .before .before .before .before .args in
-    c .stay3 .ensures ∙ reads-cut (given .stream .now) (given .place) (c .before .before .before .before .before .before .before .if1 .left) (known (c .before .before .before)) (omega arith)
+    is-given (given .stream .now) (given .place)
+    (c .stay3 .ensures ∙ reads-cut (given .stream .now) (given .place) (c .before .before .before .before .before .before .before .if1 .left) (known (c .before .before .before)) (omega arith))
 
 record-at-requires : tie.Need-record-at-requires
 record-at-requires c κs = rw (known (c .before .before)) (omega arith)
@@ -66,7 +68,7 @@ add-t7 c = search needs
 returns-4 : tie.Need-returns-4
 returns-4 c =
     let given = c .before .before .before .before .before .before .before .before .before .args in
-    rw (c .record-at .ensures) (reads-record (given .stream .now) (given .place) (c .before .before .before .before .before .before .before .if1 .left) (known (c .before .before .before)) (omega arith))
+    rw (c .record-at .ensures) (is-given (given .stream .now) (given .place) (reads-record (given .stream .now) (given .place) (c .before .before .before .before .before .before .before .if1 .left) (known (c .before .before .before)) (omega arith)))
 
 pub read-at-spec : {M : Type 1} → statement M
 read-at-spec =

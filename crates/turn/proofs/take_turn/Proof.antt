@@ -1,5 +1,6 @@
 -- `turn::take_turn` meets its contract: it goes one of the two ways of a turn. Assumes nothing.
 use borrow.Author.Needs.{needs}
+use Rattle.stream.proofs.Laws.{given-is}
 use Rattle.turn.proofs.Laws.{entries, turned-too-long, turned-reads}
 use Rattle.turn.proofs.take_turn.Statement.{statement}
 use Rattle.turn.proofs.take_turn.Tie as tie
@@ -55,7 +56,7 @@ same-length-9 c = search needs
 returns-2 : tie.Need-returns-2
 returns-2 c =
     let step = c .before .before .before .before .before .before .before .before .before .before .before .before .before .before .before .before .before .before .before .step .ensures in
-    turned-reads (c .before .before .before .before .before .before .before .before .before .before .before .before .before .before .before .before .before .before .before .before .before .before .before .before .before .before .before .if1 .left) (c .before .before .before .before .before .before .before .before .before .before .before .before .before .before .before .before .before .before .before .before .before .before .before .before .before .before .read-at .ensures) (step .0) (step .1) (c .goes-on .ensures) (c .before .before .before .put-line2 .ensures)
+    turned-reads (c .before .before .before .before .before .before .before .before .before .before .before .before .before .before .before .before .before .before .before .before .before .before .before .before .before .before .before .if1 .left) (given-is (c .before .before .before .before .before .before .before .before .before .before .before .before .before .before .before .before .before .before .before .before .before .before .before .before .before .before .read-at .ensures)) (step .0) (step .1) (c .goes-on .ensures) (c .before .before .before .put-line2 .ensures)
 
 pub take-turn-spec : {M : Type 1} → statement M
 take-turn-spec =
