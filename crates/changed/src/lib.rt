@@ -4,7 +4,8 @@ ghost use mathlib.Core.Bool.{not, _&&_};
 ghost use Prim.Native.Nat.{_≤_};
 ghost use lib.Dec.{eqb};
 ghost use lib.ListN.{length};
-ghost use Rattle.rules.specs.Columns.{Whole, arrays};
+ghost use Rattle.rules.specs.Columns.{Whole};
+ghost use Rattle.rules.specs.Lent.{lent, left, treeAt, lentTree};
 ghost use Rattle.changed.specs.Listed.{ListedBelow};
 
 // A row differs from another in its distance, its parent or its first link.
@@ -38,8 +39,8 @@ pub fn list_changed<'a>(
     new_first: &'a [u16; 256],
     list: &mut [u16],
 ) -> usize
-    requires { ⌜ Whole (arrays (now dist) (now parent) (now first)) × Whole (arrays (now «new_dist») (now «new_parent») (now «new_first»)) × (nodes ≤ 256) × (nodes ≤ length (now list)) ⌝ }
-    ensures { λ r. ⌜ ListedBelow (arrays (now (dist .entry)) (now (parent .entry)) (now (first .entry))) (arrays (now («new_dist» .entry)) (now («new_parent» .entry)) (now («new_first» .entry))) nodes (now (list .entry)) (now (list .exit)) r ⌝ }
+    requires { ⌜ Whole (treeAt dist parent first) × Whole (treeAt «new_dist» «new_parent» «new_first») × (nodes ≤ 256) × (nodes ≤ length (now list)) ⌝ }
+    ensures { λ r. ⌜ ListedBelow (lentTree dist parent first) (lentTree «new_dist» «new_parent» «new_first») nodes (lent list) (left list) r ⌝ }
 {
     let mut count: usize = 0;
     let mut v: usize = 0;

@@ -13,7 +13,7 @@ use Rattle.rules.specs.Columns.{mostNodes}
 use Rattle.rules.specs.Keep.{count}
 use Rattle.rules.proofs.Logic.{count-lt, count-all}
 use Rattle.rules.specs.Jobs.{written}
-use Rattle.path.specs.Climb.{Parents, distAt, linkTo, above, Step, Climbable, Way, at-root, by-parent, Counted, FilledFrom, Traces, traced, short}
+use Rattle.path.specs.Climb.{Parents, linkTo, above, Step, Climbable, Way, at-root, by-parent, Counted, FilledFrom, Traces, traced, short}
 use Rattle.path.specs.declared.Traced.the-variants.{Written, TooShort}
 
 -- ---- the list
@@ -38,7 +38,18 @@ pub record Last (p : Parents) (v n : ℕ) : Type 0 where
   pub some : 0 < n
   pub rest : Counted p (above p v) 0 (n - 1)
 
+-- v's last link is a step, and the climb goes on above it
+pub record Climb (p : Parents) (v below : ℕ) : Type 0 where
+  pub step : Step p v
+  pub rest : Climbable p (above p v) (below + 1)
+
 module _ {p : Parents} where
+  climb-of : {v below : ℕ} {links : List ℕ} → Way p v links → v ≢ p .root → below + length links < mostNodes → Climb p v below
+  climb-of at-root m l = absurd (m refl)
+  climb-of (by-parent {v} {links} m s w) k l =
+      let long = length-append links (linkTo p v ∷ []) in
+      record { step = s; rest = record { is-node = s .is-node; links = links; way = w; few = omega arith } }
+
   none-to-root : {v n : ℕ} {links : List ℕ} → Way p v links → v ≡ p .root → 0 + length links ≡ n → (list : List ℕ) → FilledFrom p v n list list
   none-to-root at-root here e list = record { links = []; way = at-root; count = omega arith; listed = refl }
   none-to-root (by-parent m s w) here e list = absurd (m here)
@@ -62,19 +73,17 @@ module _ {p : Parents} {v : ℕ} where
   -- ---- below it, where u is the node that v's parent link k starts at
 
   module _ (below-root : v ≢ p .root) where
-    pub climb-step : Climbable p v → Step p v
-    climb-step c = c .step v (c .reached) below-root
+    pub climb-last : {below : ℕ} → Climbable p v below → Climb p v below
+    climb-last c = climb-of (c .way) below-root (c .few)
 
     pub counted-last : {n : ℕ} → Counted p v 0 n → Last p v n
     counted-last c = last-of (c .way) below-root (c .count)
 
     module _ {u : ℕ} (up : u ≡ above p v) where
-      pub climb-more : Climbable p v → Climbable p u
-      climb-more c =
-          let s = climb-step c in
-          rw up (record { is-node = s .is-node; reached = s .from-reached; is-route = omega (arith, s .nearer, c .is-route); step = c .step })
+      pub climb-more : {below : ℕ} → Climb p v below → Climbable p u (below + 1)
+      climb-more c = rw up (c .rest)
 
-      pub nearer : Step p v → distAt p u < distAt p v
+      pub nearer : Step p v → getD (p .dist) u 0 < getD (p .dist) v 0
       nearer s = rw up (s .nearer)
 
       pub counted-more : {below total : ℕ} → Step p v → Counted p u (below + 1) total → Counted p v below total
@@ -98,30 +107,33 @@ module _ {p : Parents} {v : ℕ} where
 -- ---- no path has as many links as there are nodes, since each of them starts at a nearer one
 
 module _ (p : Parents) where
+  abbrev distAt : ℕ → ℕ
+  distAt v = getD (p .dist) v 0
+
   -- how many nodes are nearer than d
   nearerThan : ℕ → ℕ
-  nearerThan d = count (λ u. ltb (distAt p u) d) mostNodes
+  nearerThan d = count (λ u. ltb (distAt u) d) mostNodes
 
-  not-nearer : (v : ℕ) → ¬ (T (ltb (distAt p v) (distAt p v)))
-  not-nearer v t = let l = ltb→lt (distAt p v) (distAt p v) t in omega arith
+  not-nearer : (v : ℕ) → ¬ (T (ltb (distAt v) (distAt v)))
+  not-nearer v t = let l = ltb→lt (distAt v) (distAt v) t in omega arith
 
-  nearer-fewer : (u d : ℕ) → u < mostNodes → distAt p u < d → nearerThan (distAt p u) < nearerThan d
+  nearer-fewer : (u d : ℕ) → u < mostNodes → distAt u < d → nearerThan (distAt u) < nearerThan d
   unfolding nearerThan
   nearer-fewer u d l near =
-      count-lt (λ x. ltb (distAt p x) (distAt p u)) (λ x. ltb (distAt p x) d) mostNodes
-      (λ x m t. let q = ltb→lt (distAt p x) (distAt p u) t in lt→ltb (distAt p x) d (omega arith))
-      u l (not-nearer u) (lt→ltb (distAt p u) d near)
+      count-lt (λ x. ltb (distAt x) (distAt u)) (λ x. ltb (distAt x) d) mostNodes
+      (λ x m t. let q = ltb→lt (distAt x) (distAt u) t in lt→ltb (distAt x) d (omega arith))
+      u l (not-nearer u) (lt→ltb (distAt u) d near)
 
-  not-all-nearer : (v : ℕ) → v < mostNodes → nearerThan (distAt p v) < mostNodes
+  not-all-nearer : (v : ℕ) → v < mostNodes → nearerThan (distAt v) < mostNodes
   unfolding nearerThan
   not-all-nearer v l =
-      let fewer = count-lt (λ x. ltb (distAt p x) (distAt p v)) (λ x. true) mostNodes (λ x m t. tt) v l (not-nearer v) tt in
+      let fewer = count-lt (λ x. ltb (distAt x) (distAt v)) (λ x. true) mostNodes (λ x m t. tt) v l (not-nearer v) tt in
       omega (arith, count-all mostNodes)
 
-  links-nearer : {v : ℕ} {links : List ℕ} → Way p v links → length links ≤ nearerThan (distAt p v)
+  links-nearer : {v : ℕ} {links : List ℕ} → Way p v links → length links ≤ nearerThan (distAt v)
   links-nearer at-root = omega arith
   links-nearer (by-parent {v} {links} m s w) =
-      omega (arith, links-nearer w, length-append links (linkTo p v ∷ []), nearer-fewer (above p v) (distAt p v) (s .is-node) (s .nearer))
+      omega (arith, links-nearer w, length-append links (linkTo p v ∷ []), nearer-fewer (above p v) (distAt v) (s .is-node) (s .nearer))
 
 pub few-links : {p : Parents} {v n : ℕ} → v < mostNodes → Counted p v 0 n → n < mostNodes
 few-links {p} {v} l c = omega (arith, c .count, links-nearer p (c .way), not-all-nearer p v l)

@@ -5,7 +5,7 @@ use mathlib.Core.Logic.{_≢_}
 use mathlib.Core.List.{List, [], _∷_, _++_}
 use Prim.Native.Nat.{ℕ, _+_, _≤_, _<_}
 use lib.ListN.{length, getD}
-use Rattle.rules.specs.Columns.{mostNodes, unreached, noCeiling}
+use Rattle.rules.specs.Columns.{mostNodes}
 use Rattle.rules.specs.Jobs.{written}
 use Rattle.path.specs.declared.Traced.{Traced}
 use Rattle.path.specs.declared.Traced.the-variants.{Written, TooShort}
@@ -21,9 +21,6 @@ abbrev pub parents : ℕ → List ℕ → List ℕ → List ℕ → Parents
 parents root starts dist parent = record { root = root; starts = starts; dist = dist; parent = parent }
 
 module _ (p : Parents) where
-  abbrev pub distAt : ℕ → ℕ
-  distAt v = getD (p .dist) v unreached
-
   abbrev pub linkTo : ℕ → ℕ
   linkTo v = getD (p .parent) v 0
 
@@ -31,24 +28,23 @@ module _ (p : Parents) where
   abbrev pub above : ℕ → ℕ
   above v = getD (p .starts) (linkTo v) 0
 
-  -- v's parent link is a link, and starts at a reached node that is nearer
+  -- v's parent link is a link, and starts at a nearer node
   pub record Step (v : ℕ) : Type 0 where
     pub is-link : linkTo v < length (p .starts)
     pub is-node : above v < mostNodes
-    pub from-reached : distAt (above v) ≢ unreached
-    pub nearer : distAt (above v) < distAt v
-
-  -- the node is reached, and from every reached node a step leads up, till the root is there
-  pub record Climbable (node : ℕ) : Type 0 where
-    pub is-node : node < mostNodes
-    pub reached : distAt node ≢ unreached
-    pub is-route : distAt node < noCeiling
-    pub step : (v : ℕ) → distAt v ≢ unreached → v ≢ p .root → Step v
+    pub nearer : getD (p .dist) (above v) 0 < getD (p .dist) v 0
 
   -- the links of the climb from v, in travel order
   pub data Way : ℕ → List ℕ → Type 0 where
     at-root : Way (p .root) []
     by-parent : {v : ℕ} {links : List ℕ} → v ≢ p .root → Step v → Way (above v) links → Way v (links ++ (linkTo v ∷ []))
+
+  -- steps lead up from the node to the root; with so many links counted below it, fewer than 256 in all
+  pub record Climbable (node below : ℕ) : Type 0 where
+    pub is-node : node < mostNodes
+    pub links : List ℕ
+    pub way : Way node links
+    pub few : below + length links < mostNodes
 
   -- with so many links counted below v, there are total in all
   pub record Counted (v below total : ℕ) : Type 0 where

@@ -1,10 +1,11 @@
 // The path to a node: the links from the root to it, found from the node upward.
 ghost use mathlib.Core.Path.{_≡_};
-ghost use Prim.Native.Nat.{_+_, _≤_, _<_};
+ghost use Prim.Native.Nat.{_≤_, _<_};
 ghost use lib.ListN.{length, getD};
-ghost use Rattle.rules.specs.Columns.{mostNodes, noCeiling};
+ghost use Rattle.rules.specs.Columns.{mostNodes};
+ghost use Rattle.rules.specs.Lent.{lent, left};
 ghost use Rattle.rules.specs.Jobs.{written};
-ghost use Rattle.path.specs.Climb.{parents, distAt, Climbable, Counted, FilledFrom, Traces};
+ghost use Rattle.path.specs.Climb.{parents, Climbable, Counted, FilledFrom, Traces};
 
 // How many links stand at the list's front now, or that the list has no room for them.
 pub enum Traced {
@@ -15,7 +16,7 @@ pub enum Traced {
 // The node that a link starts at.
 fn start_of(starts: &&[u16], link: u16) -> usize
     requires { ⌜ link < length (now (now starts)) ⌝ }
-    ensures { λ r. ⌜ r ≡ getD (now (now (starts .entry))) link 0 ⌝ }
+    ensures { λ r. ⌜ r ≡ getD (now (lent starts)) link 0 ⌝ }
 {
     let column = *starts;
     let place = link as usize;
@@ -31,8 +32,8 @@ fn depth<'a, 's>(
     dist: &'a [u32; 256],
     parent: &'a [u16; 256],
 ) -> usize
-    requires { ⌜ Climbable (parents root (now (now starts)) (now dist) (now parent)) node × (below + distAt (parents root (now (now starts)) (now dist) (now parent)) node < noCeiling) ⌝ }
-    ensures { λ r. ⌜ Counted (parents root (now (now (starts .entry))) (now (dist .entry)) (now (parent .entry))) node below r ⌝ }
+    requires { ⌜ Climbable (parents root (now (now starts)) (now dist) (now parent)) node below ⌝ }
+    ensures { λ r. ⌜ Counted (parents root (now (lent starts)) (lent dist) (lent parent)) node below r ⌝ }
 {
     if node == root {
         return below;
@@ -41,8 +42,8 @@ fn depth<'a, 's>(
     depth(root, up, below + 1, starts, dist, parent)
 }
 
-// Writes the node's n links, the last one first. Its list is as long as a path can be; a list of any length would take
-// room on the stack at each step.
+// Writes the node's n links, the last one first. Its list is as long as a path can be: a list of any length as parameter
+// would take 32 bytes of the stack at each step.
 fn fill<'a, 's>(
     root: usize,
     node: usize,
@@ -53,7 +54,7 @@ fn fill<'a, 's>(
     links: &mut [u16; 256],
 )
     requires { ⌜ (node < mostNodes) × Counted (parents root (now (now starts)) (now dist) (now parent)) node 0 n × (length (now links) ≡ mostNodes) ⌝ }
-    ensures { λ _. ⌜ FilledFrom (parents root (now (now (starts .entry))) (now (dist .entry)) (now (parent .entry))) node n (now (links .entry)) (now (links .exit)) ⌝ }
+    ensures { λ _. ⌜ FilledFrom (parents root (now (lent starts)) (lent dist) (lent parent)) node n (lent links) (left links) ⌝ }
 {
     if node != root {
         let link = parent[node];
@@ -67,7 +68,7 @@ fn fill<'a, 's>(
 // Writes all of `front` at the front of the list.
 fn copy_front(front: &[u16], list: &mut [u16])
     requires { ⌜ length (now front) ≤ length (now list) ⌝ }
-    ensures { λ _. ⌜ now (list .exit) ≡ written (now (front .entry)) (now (list .entry)) ⌝ }
+    ensures { λ _. ⌜ left list ≡ written (lent front) (lent list) ⌝ }
 {
     let mut i: usize = 0;
     while i < front.len() {
@@ -85,8 +86,8 @@ pub fn trace<'a>(
     parent: &'a [u16; 256],
     list: &mut [u16],
 ) -> Traced
-    requires { ⌜ Climbable (parents root (now starts) (now dist) (now parent)) node ⌝ }
-    ensures { λ r. ⌜ Traces (parents root (now (starts .entry)) (now (dist .entry)) (now (parent .entry))) node (now (list .entry)) r (now (list .exit)) ⌝ }
+    requires { ⌜ Climbable (parents root (now starts) (now dist) (now parent)) node 0 ⌝ }
+    ensures { λ r. ⌜ Traces (parents root (lent starts) (lent dist) (lent parent)) node (lent list) r (left list) ⌝ }
 {
     let n = depth(root, node, 0, &starts, dist, parent);
     if list.len() < n {

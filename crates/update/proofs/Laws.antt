@@ -10,7 +10,7 @@ use lib.ListN.{length, getD, set, take}
 use lib.Seq.{length-take-le, getD-take, getD-set-other}
 use borrow.Author.Tests.{lt-ltb}
 use Rattle.rules.specs.Fit.{Fits}
-use Rattle.rules.specs.Columns.{Table, Arrays, Proper, Whole, netOf, rowsOf, applied, after, unreached}
+use Rattle.rules.specs.Columns.{Table, Arrays, Proper, Whole, narrow, netOf, rowsOf, applied, after, unreached}
 use Rattle.rules.specs.Refusals.{Verdict, accepted, when, judgeTree, judgeBatch, judgeUpdate, linkAt}
 use Rattle.rules.specs.Jobs.{changedBelow, Updated, updated, not-updated}
 use Rattle.rules.specs.Demands.{SixteenBit}
@@ -105,7 +105,7 @@ module _ (t : Table) (old : Arrays) (batch : List Change) (list : List ℕ) (e :
   pub update-updated : {new : Arrays} {costs listed : List ℕ} {count : ℕ} → Regrown (after t batch) (old .parent) new
       → costs ≡ applied batch (t .costs) → ListedBelow old new (t .nodes) list listed count → Updated t old batch list accepted new costs listed count
   update-updated {new} g c l =
-      rw (c, l .front, l .counted) (updated (changedBelow (rowsOf old) (rowsOf new) (t .nodes)) e (g .whole) (g .next) refl)
+      rw (c, l .front narrow, l .counted narrow) (updated (changedBelow (rowsOf old) (rowsOf new) (t .nodes)) e (g .whole) (g .next) refl)
 
 pub update-refused : {t : Table} {old : Arrays} {batch : List Change} {list : List ℕ} {v : Verdict} → v ≡ judgeUpdate t old batch list → (v ≡ accepted → ⊥)
     → Updated t old batch list v old (t .costs) list 0

@@ -1,6 +1,7 @@
-use Prim.Native.Nat.{ℕ, suc, _+_, _-_, _*_, _≤_, _<_}
-use mathlib.Core.Path.{_≡_, refl, ap, sym, _∙_}
-use mathlib.Core.Logic.{⊎-elim}
+-- `changed::list_changed` meets its contract. The invariant: the nodes below `v` have been looked at; the measure is the number
+-- of nodes left. Assumes nothing.
+use mathlib.Core.Path.{_≡_, sym, _∙_}
+use Prim.Native.Nat.{_-_, _≤_, _<_}
 use native.Mathlib.Omega.{arith}
 use lib.ListN.{length, length-set}
 use borrow.Author.Needs.{needs}
@@ -9,9 +10,6 @@ use Rattle.changed.specs.Listed.{ListedBelow}
 use Rattle.changed.proofs.Laws.{differs-by, count-few, listed-none, listed-more, listed-same, listed-end}
 use Rattle.changed.proofs.list_changed.Statement.{statement}
 use Rattle.changed.proofs.list_changed.Tie as tie
-use Rattle.changed.proofs.list_changed.Reads as reads
-use Rattle.changed.proofs.list_changed.Lts as lts
-use Rattle.changed.proofs.row_differs.Reads as row-differs-reads
 
 abbrev Inv-loop : tie.InvT-loop
 Inv-loop nodes dist parent first new-dist new-parent new-first list₀ count₀ v₀ list count v =
@@ -94,7 +92,7 @@ loop-again c =
     let below : v < 256 = omega (arith, c .before .before .before .before .before .before .before .before .loop-test .taken, pre .2) in (
       omega (arith, c .before .before .before .before .before .before .before .before .loop-test .taken),
       simp length-set (inv .1),
-      listed-more (inv .2) (sym (differs-by (pre .0) (pre .1) v below) ∙ sym (c .before .row-differs .ensures) ∙ c .if1 .taken)
+      listed-more (inv .2) (λ p. sym (differs-by p (pre .0) (pre .1) v below) ∙ sym (c .before .row-differs .ensures) ∙ c .if1 .taken)
           (omega (arith, count-few (inv .2), c .before .before .before .before .before .before .before .before .loop-test .taken, pre .3)),
     )
 
@@ -109,7 +107,7 @@ loop-again-2 c =
     let below : v < 256 = omega (arith, c .before .before .before .before .before .before .before .before .loop-test .taken, pre .2) in (
       omega (arith, c .before .before .before .before .before .before .before .before .loop-test .taken),
       inv .1,
-      listed-same (inv .2) (sym (differs-by (pre .0) (pre .1) v below) ∙ sym (c .before .row-differs .ensures) ∙ c .if1 .left),
+      listed-same (inv .2) (λ p. sym (differs-by p (pre .0) (pre .1) v below) ∙ sym (c .before .row-differs .ensures) ∙ c .if1 .left),
     )
 
 same-length : tie.Need-same-length Inv-loop μ-loop

@@ -6,8 +6,7 @@ use lib.ListN.{getD}
 use borrow.Author.Needs.{needs}
 use borrow.Fn.Kinds.{In}
 use borrow.Fn.PlainCycle.{Measures, is, falls, and}
-use Rattle.rules.specs.Columns.{unreached}
-use Rattle.path.proofs.Laws.{counted-root, climb-step, nearer, climb-more, counted-more}
+use Rattle.path.proofs.Laws.{counted-root, climb-last, nearer, climb-more, counted-more}
 use Rattle.path.proofs.depth.Reads as depth
 use Rattle.path.proofs.depth.Kinds as depth-kinds
 use Rattle.path.proofs.+depth.Lts-depth as depth-lts
@@ -16,7 +15,7 @@ use Rattle.path.proofs.+depth.{statement}
 use Rattle.path.proofs.+depth.Tie.{close}
 
 abbrev μ-depth : Measures 2 depth-kinds.ps ℕ
-μ-depth κs a = getD (a .1 .1 .1 .1 .0 .now) (a .1 .0) unreached
+μ-depth κs a = getD (a .1 .1 .1 .1 .0 .now) (a .1 .0) 0
 
 abbrev depth-at : ℕ → In 2 depth-kinds.ps
 depth-at t = and 2 depth-kinds.ps (is 2 depth-kinds.ps μ-depth t) depth.Pre
@@ -38,24 +37,23 @@ depth-element-copy-out-start-of : (t : ℕ) → depth-lts.Need-element-copy-out-
 depth-element-copy-out-start-of t c = search needs
 
 depth-start-of-requires : (t : ℕ) → depth-lts.Need-start-of-requires (known t) (depth-at t) depth.Post
-depth-start-of-requires t c κs = climb-step (c .before .if1 .left) (c .before .before .pre .1 .0) .is-link
+depth-start-of-requires t c κs = climb-last (c .before .if1 .left) (c .before .before .pre .1) .step .is-link
 
 depth-add-depth : (t : ℕ) → depth-lts.Need-add-depth (known t) (depth-at t) depth.Post
-depth-add-depth t c = search needs
+depth-add-depth t c = omega (arith, c .before .before .before .pre .1 .few)
 
 depth-depth-requires : (t : ℕ) → depth-lts.Need-depth-requires (known t) (depth-at t) depth.Post
 depth-depth-requires t c κs =
     let start = c .before .before .before in
-    let climb = start .pre .1 .0 in
     let low = c .before .before .if1 .left in
     let up = c .start-of .ensures in
-    let near = nearer low up (climb-step low climb) in
-    (omega (arith, near, start .pre .0), (climb-more low up climb, omega (arith, near, start .pre .1 .1)))
+    let climb = climb-last low (start .pre .1) in
+    (omega (arith, nearer low up (climb .step), start .pre .0), climb-more low up climb)
 
 depth-returns-2 : (t : ℕ) → depth-lts.Need-returns-2 (known t) (depth-at t) depth.Post
 depth-returns-2 t c =
     let low = c .before .before .before .if1 .left in
-    counted-more low (c .before .start-of .ensures) (climb-step low (c .before .before .before .before .pre .1 .0)) (c .depth .ensures)
+    counted-more low (c .before .start-of .ensures) (climb-last low (c .before .before .before .before .pre .1) .step) (c .depth .ensures)
 
 pub +depth-spec : {M : Type 1} → statement M
 +depth-spec = close μ-depth λ t. depth-lts.spec (known t)

@@ -7,7 +7,6 @@ use lib.ListN.{length-set}
 use borrow.Author.Needs.{needs}
 use borrow.Fn.Kinds.{In}
 use borrow.Fn.PlainCycle.{Measures, is, falls, and}
-use Rattle.rules.specs.Columns.{unreached}
 use Rattle.path.proofs.Laws.{nearer, few-links, counted-last, filled-more, filled-root}
 use Rattle.path.proofs.fill.Reads as fill
 use Rattle.path.proofs.fill.Kinds as fill-kinds
@@ -17,7 +16,7 @@ use Rattle.path.proofs.+fill.{statement}
 use Rattle.path.proofs.+fill.Tie.{close}
 
 abbrev μ-fill : Measures 3 fill-kinds.ps ℕ
-μ-fill κs a = getD (a .1 .1 .1 .1 .0 .now) (a .1 .0) unreached
+μ-fill κs a = getD (a .1 .1 .1 .1 .0 .now) (a .1 .0) 0
 
 abbrev fill-at : ℕ → In 3 fill-kinds.ps
 fill-at t = and 3 fill-kinds.ps (is 3 fill-kinds.ps μ-fill t) fill.Pre
