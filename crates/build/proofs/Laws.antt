@@ -1,7 +1,7 @@
 -- What the table's verdict says of the whole job. Assumes nothing.
 use mathlib.Core.Path.{_≡_, refl, sym, _∙_}
 use lib.ListN.{length-replicate}
-use Rattle.rules.specs.Columns.{Table, Arrays, Whole, Proper, emptyTree, mostNodes, unreached, noLink}
+use Rattle.rules.specs.Columns.{Table, Arrays, Whole, Proper, narrow, emptyTree, mostNodes, unreached, noLink}
 use Rattle.rules.specs.Refusals.{Verdict, accepted, refused, judgeLinks}
 use Rattle.rules.specs.Jobs.{Built, built, not-built}
 use Rattle.rules.proofs.Judged.{links-proper}
@@ -21,5 +21,5 @@ module _ (t : Table) (v : Verdict) (is : v ≡ judgeLinks t) where
   pub build-proper : v ≡ accepted → Proper t
   build-proper a = links-proper t (sym is ∙ a)
 
-  pub build-accepted : v ≡ accepted → {tree : Arrays} → Grown t tree → Built t v tree
+  pub build-accepted : v ≡ accepted → {tree : Arrays} → Grown narrow t tree → Built t v tree
   build-accepted a g = rw a (built (sym is ∙ a) (g .whole) (g .fresh))

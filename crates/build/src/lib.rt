@@ -36,6 +36,19 @@ pub fn build(
     if rules::number(answer) != 0 {
         return answer;
     }
-    grow::grow(nodes, root, starts, ends, costs, dist, parent, first);
+    let none = [0u32; 0];
+    let profile = rules::narrow();
+    grow::grow(
+        profile,
+        nodes,
+        root,
+        starts,
+        ends,
+        costs,
+        &none,
+        dist,
+        parent,
+        first,
+    );
     answer
 }

@@ -1,44 +1,55 @@
 // The arrays of a whole tree: grown from the root, or regrown from what still stands of an old tree after costs have
 // changed. All are seeds of one loop that settles distances and finds links. What is found is a built tree's parents;
 // after a change a node whose old link is tight keeps that. The loop leaves guesses in `first`; after a change the old
-// first links are the guesses of the nodes that don't move.
+// first links are the guesses of the nodes that don't move. Inside, the mark is the ceiling: the public functions show
+// that this makes no other tree.
 ghost use mathlib.Core.Path.{_≡_};
+ghost use mathlib.Core.Bool.{true};
 ghost use lib.ListN.{length, replicate};
-ghost use Rattle.rules.specs.Columns.{Proper, table, arrays, Whole, mostNodes, noLink};
+ghost use Rattle.rules.specs.Columns.{Proper, Whole, mostNodes, noLink};
+ghost use Rattle.rules.specs.Lent.{treeAt, leftTree, lent, left};
+ghost use Rattle.usable.specs.Standing.{givenTable, givenNet, lentTableAt, lentNet};
+ghost use Rattle.basics.specs.Leaving.{Leaving};
+ghost use Rattle.level.specs.Level.{Level, Ample};
 ghost use Rattle.queue.specs.Queue.{empty};
-ghost use Rattle.settle.specs.Afoot.{Firsts};
-ghost use Rattle.grow.specs.Grown.{Grown, Old, Fitted, Regrown, Seeded, Reseeded};
-use rules::UNREACHED;
+ghost use Rattle.heads.specs.Heads.{Heads};
+ghost use Rattle.afoot.specs.Afoot.{Seeded, Calm, Every, Naming};
+ghost use Rattle.afoot.specs.Finding.{Heard};
+ghost use Rattle.grow.specs.Grown.{Grown, Old, Fitted, Regrown, Apart, Begun, Runs, Reseeded};
+use rules::NO_LINK;
+use rules::Profile;
 
-const NO_LINK: u16 = 65_535;
-
-// Every reached node but the root takes its tight link of smallest number. Whatever the arrays held is forgotten.
-pub fn grow(
+// Every reached node but the root takes its tight link of smallest number.
+fn grow_level(
+    profile: Profile,
     nodes: usize,
     root: usize,
     starts: &[u16],
     ends: &[u16],
-    costs: &[u16],
+    narrow: &[u16],
+    wide: &[u32],
     dist: &mut [u32; 256],
     parent: &mut [u16; 256],
     first: &mut [u16; 256],
 )
-    requires { ⌜ Proper (table nodes root (now starts) (now ends) (now costs)) × Whole (arrays (now dist) (now parent) (now first)) ⌝ }
-    ensures { λ _. ⌜ Grown (table nodes root (now (starts .entry)) (now (ends .entry)) (now (costs .entry))) (arrays (now (dist .exit)) (now (parent .exit)) (now (first .exit))) ⌝ }
+    requires { ⌜ Proper (givenTable nodes root starts ends narrow wide) × Level (givenNet profile nodes root starts ends narrow wide) × Whole (treeAt dist parent first) ⌝ }
+    ensures { λ _. ⌜ Grown profile (lentTableAt nodes root starts ends narrow wide) (leftTree dist parent first) ⌝ }
 {
-    *dist = [UNREACHED; 256];
+    *dist = [profile.mark; 256];
     *parent = [NO_LINK; 256];
     *first = [NO_LINK; 256];
-    let at = settle::first_links(starts);
+    let at = heads::first_links(starts);
     let mut keys = [queue::EMPTY; 256];
     let mut mins = [queue::EMPTY; 72];
-    settle::seed(root, dist, &mut keys, &mut mins);
+    offer::seed(root, dist, &mut keys, &mut mins);
     settle::settle(
+        profile,
         nodes,
         root,
         starts,
         ends,
-        costs,
+        narrow,
+        wide,
         &at,
         dist,
         &mut keys,
@@ -46,16 +57,18 @@ pub fn grow(
         parent,
         first,
     );
-    hang::renew_firsts(nodes, root, starts, dist, parent, first);
+    firsts::renew_firsts(nodes, root, starts, dist, parent, first);
 }
 
 // The loop, from a seed that left an old tree's parents as they were; then these, where they are tight.
 fn finish(
+    profile: Profile,
     nodes: usize,
     root: usize,
     starts: &[u16],
     ends: &[u16],
-    costs: &[u16],
+    narrow: &[u16],
+    wide: &[u32],
     at: &[u16; 256],
     dist: &mut [u32; 256],
     keys: &mut [u64; 256],
@@ -64,15 +77,17 @@ fn finish(
     parent: &mut [u16; 256],
     first: &mut [u16; 256],
 )
-    requires { ⌜ Proper (table nodes root (now starts) (now ends) (now costs)) × Firsts (now starts) (now at) × Seeded (table nodes root (now starts) (now ends) (now costs)) (now parent) (now dist) (now keys) (now mins) (now found) × (length (now parent) ≡ mostNodes) × (length (now first) ≡ mostNodes) ⌝ }
-    ensures { λ _. ⌜ Regrown (table nodes root (now (starts .entry)) (now (ends .entry)) (now (costs .entry))) (now (parent .entry)) (arrays (now (dist .exit)) (now (parent .exit)) (now (first .exit))) ⌝ }
+    requires { ⌜ Proper (givenTable nodes root starts ends narrow wide) × Level (givenNet profile nodes root starts ends narrow wide) × Heads (now starts) (now at) × Begun (givenNet profile nodes root starts ends narrow wide) (now parent) (now dist) (now keys) (now mins) (now found) × (length (now parent) ≡ mostNodes) × (length (now first) ≡ mostNodes) ⌝ }
+    ensures { λ _. ⌜ Regrown profile (lentTableAt nodes root starts ends narrow wide) (lent parent) (leftTree dist parent first) ⌝ }
 {
     settle::settle(
+        profile,
         nodes,
         root,
         starts,
         ends,
-        costs,
+        narrow,
+        wide,
         at,
         dist,
         keys,
@@ -80,19 +95,97 @@ fn finish(
         found,
         first,
     );
-    hang::keep_tight(starts, ends, costs, dist, found, parent);
-    hang::renew_firsts(nodes, root, starts, dist, parent, first);
+    keep::keep_tight(
+        profile,
+        nodes,
+        root,
+        starts,
+        ends,
+        narrow,
+        wide,
+        dist,
+        found,
+        parent,
+    );
+    firsts::renew_firsts(nodes, root, starts, dist, parent, first);
 }
 
-// The seed after a batch: what the rows' links no longer carry is lifted, and offered are the links into lifted nodes and
-// those of the rows, since no other can offer less. Tells whether the loop has to run: a batch that lifts nothing and
-// lowers nothing changes nothing. `at` is filled where it has.
-fn reseed(
+// The links into lifted nodes are offered, and those of the rows: no other can offer less.
+fn offer_touched(
+    profile: Profile,
     nodes: usize,
     root: usize,
     starts: &[u16],
     ends: &[u16],
-    costs: &[u16],
+    narrow: &[u16],
+    wide: &[u32],
+    changed: &[u16],
+    lifted: bool,
+    first: &[u16; 256],
+    dist: &mut [u32; 256],
+    keys: &mut [u64; 256],
+    mins: &mut [u64; 72],
+    found: &mut [u16; 256],
+)
+    requires { ⌜ Proper (givenTable nodes root starts ends narrow wide) × Seeded (givenNet profile nodes root starts ends narrow wide) (now dist) (now keys) (now mins) × Naming (length (now starts)) (now changed) × Apart (givenNet profile nodes root starts ends narrow wide) (now changed) (now dist) (now keys) lifted (now first) × (length (now first) ≡ mostNodes) × (length (now found) ≡ mostNodes) ⌝ }
+    ensures { λ _. ⌜ Heard (lentNet profile nodes root starts ends narrow wide) (Calm (lentNet profile nodes root starts ends narrow wide) (lent dist) (lent keys)) (lent dist) (lent keys) (lent found) Every (left dist) (left keys) (left mins) (left found) ⌝ }
+{
+    settle::offer_into(
+        profile,
+        nodes,
+        root,
+        starts,
+        ends,
+        narrow,
+        wide,
+        lifted,
+        first,
+        dist,
+        keys,
+        mins,
+        found,
+    );
+    settle::offer_rows(
+        profile,
+        nodes,
+        root,
+        starts,
+        ends,
+        narrow,
+        wide,
+        changed,
+        dist,
+        keys,
+        mins,
+        found,
+    );
+}
+
+// Whether the loop has to run. Where nodes were lifted, `at` is filled.
+fn goes_on(lifted: bool, starts: &[u16], at: &mut [u16; 256], mins: &[u64; 72]) -> bool
+    requires { ⌜ Leaving (now starts) × (lifted ≡ true → Heads (now starts) (now at)) ⌝ }
+    ensures { λ r. ⌜ Runs (lent starts) (lent mins) lifted (left at) r ⌝ }
+{
+    if lifted {
+        return true;
+    }
+    if queue::least(mins) == queue::EMPTY {
+        return false;
+    }
+    *at = heads::first_links(starts);
+    true
+}
+
+// The seed after a batch: what the rows' links no longer carry is lifted, and what the batch touched is offered. Tells
+// whether the loop has to run: a batch that lifts nothing and lowers nothing changes nothing. `at` is filled where it has.
+fn reseed(
+    profile: Profile,
+    nodes: usize,
+    root: usize,
+    starts: &[u16],
+    ends: &[u16],
+    narrow: &[u16],
+    wide: &[u32],
     changed: &[u16],
     at: &mut [u16; 256],
     parent: &[u16; 256],
@@ -102,15 +195,17 @@ fn reseed(
     mins: &mut [u64; 72],
     found: &mut [u16; 256],
 ) -> bool
-    requires { ⌜ Proper (table nodes root (now starts) (now ends) (now costs)) × Fitted (table nodes root (now starts) (now ends) (now costs)) (now changed) (arrays (now dist) (now parent) (now first)) × (now keys ≡ replicate 256 empty) × (now mins ≡ replicate 72 empty) × (now found ≡ replicate 256 noLink) ⌝ }
-    ensures { λ r. ⌜ Seeded (table nodes root (now (starts .entry)) (now (ends .entry)) (now (costs .entry))) (now (parent .entry)) (now (dist .exit)) (now (keys .exit)) (now (mins .exit)) (now (found .exit)) × Reseeded (table nodes root (now (starts .entry)) (now (ends .entry)) (now (costs .entry))) (now (parent .entry)) (now (dist .entry)) (now (first .entry)) (now (at .exit)) (now (dist .exit)) (now (first .exit)) (now (keys .exit)) (now (mins .exit)) r ⌝ }
+    requires { ⌜ Proper (givenTable nodes root starts ends narrow wide) × Level (givenNet profile nodes root starts ends narrow wide) × Fitted profile (givenTable nodes root starts ends narrow wide) (now changed) (treeAt dist parent first) × (now keys ≡ replicate 256 empty) × (now mins ≡ replicate 72 empty) × (now found ≡ replicate 256 noLink) ⌝ }
+    ensures { λ r. ⌜ Begun (lentNet profile nodes root starts ends narrow wide) (lent parent) (left dist) (left keys) (left mins) (left found) × Reseeded (lentNet profile nodes root starts ends narrow wide) (lent starts) (lent parent) (lent dist) (lent first) (left at) (left dist) (left first) (left keys) (left mins) r ⌝ }
 {
     let lifted = lift::lift_rows(
+        profile,
         nodes,
         root,
         starts,
         ends,
-        costs,
+        narrow,
+        wide,
         changed,
         at,
         parent,
@@ -119,12 +214,15 @@ fn reseed(
         keys,
         mins,
     );
-    settle::offer_into(
+    offer_touched(
+        profile,
         nodes,
         root,
         starts,
         ends,
-        costs,
+        narrow,
+        wide,
+        changed,
         lifted,
         first,
         dist,
@@ -132,54 +230,38 @@ fn reseed(
         mins,
         found,
     );
-    settle::offer_rows(
-        nodes,
-        root,
-        starts,
-        ends,
-        costs,
-        changed,
-        dist,
-        keys,
-        mins,
-        found,
-    );
-    if lifted {
-        return true;
-    }
-    if queue::least(mins) == queue::EMPTY {
-        return false;
-    }
-    *at = settle::first_links(starts);
-    true
+    goes_on(lifted, starts, at, mins)
 }
 
-// The next tree under these costs, where the arrays come in as one that fitted before, and `changed` names the links whose
-// cost is another.
-pub fn regrow(
+// The next tree, where the arrays come in as one that fitted before, and `changed` names the links whose cost is another.
+fn regrow_level(
+    profile: Profile,
     nodes: usize,
     root: usize,
     starts: &[u16],
     ends: &[u16],
-    costs: &[u16],
+    narrow: &[u16],
+    wide: &[u32],
     changed: &[u16],
     dist: &mut [u32; 256],
     parent: &mut [u16; 256],
     first: &mut [u16; 256],
 )
-    requires { ⌜ Proper (table nodes root (now starts) (now ends) (now costs)) × Fitted (table nodes root (now starts) (now ends) (now costs)) (now changed) (arrays (now dist) (now parent) (now first)) ⌝ }
-    ensures { λ _. ⌜ Regrown (table nodes root (now (starts .entry)) (now (ends .entry)) (now (costs .entry))) (now (parent .entry)) (arrays (now (dist .exit)) (now (parent .exit)) (now (first .exit))) ⌝ }
+    requires { ⌜ Proper (givenTable nodes root starts ends narrow wide) × Level (givenNet profile nodes root starts ends narrow wide) × Fitted profile (givenTable nodes root starts ends narrow wide) (now changed) (treeAt dist parent first) ⌝ }
+    ensures { λ _. ⌜ Regrown profile (lentTableAt nodes root starts ends narrow wide) (lent parent) (leftTree dist parent first) ⌝ }
 {
     let mut at = [NO_LINK; 256];
     let mut keys = [queue::EMPTY; 256];
     let mut mins = [queue::EMPTY; 72];
     let mut found = [NO_LINK; 256];
-    let goes_on = reseed(
+    let runs = reseed(
+        profile,
         nodes,
         root,
         starts,
         ends,
-        costs,
+        narrow,
+        wide,
         changed,
         &mut at,
         parent,
@@ -189,15 +271,17 @@ pub fn regrow(
         &mut mins,
         &mut found,
     );
-    if !goes_on {
+    if !runs {
         return;
     }
     finish(
+        profile,
         nodes,
         root,
         starts,
         ends,
-        costs,
+        narrow,
+        wide,
         &at,
         dist,
         &mut keys,
@@ -210,11 +294,13 @@ pub fn regrow(
 
 // The seed that assumes nothing of the tree: every parent is asked, and every link is offered.
 fn reseed_all(
+    profile: Profile,
     nodes: usize,
     root: usize,
     starts: &[u16],
     ends: &[u16],
-    costs: &[u16],
+    narrow: &[u16],
+    wide: &[u32],
     at: &[u16; 256],
     parent: &[u16; 256],
     dist: &mut [u32; 256],
@@ -223,15 +309,17 @@ fn reseed_all(
     mins: &mut [u64; 72],
     found: &mut [u16; 256],
 )
-    requires { ⌜ Proper (table nodes root (now starts) (now ends) (now costs)) × Firsts (now starts) (now at) × Old (table nodes root (now starts) (now ends) (now costs)) (arrays (now dist) (now parent) (now first)) × (now keys ≡ replicate 256 empty) × (now mins ≡ replicate 72 empty) × (now found ≡ replicate 256 noLink) ⌝ }
-    ensures { λ _. ⌜ Seeded (table nodes root (now (starts .entry)) (now (ends .entry)) (now (costs .entry))) (now (parent .entry)) (now (dist .exit)) (now (keys .exit)) (now (mins .exit)) (now (found .exit)) × (length (now (first .exit)) ≡ mostNodes) ⌝ }
+    requires { ⌜ Proper (givenTable nodes root starts ends narrow wide) × Level (givenNet profile nodes root starts ends narrow wide) × Heads (now starts) (now at) × Old profile (givenTable nodes root starts ends narrow wide) (treeAt dist parent first) × (now keys ≡ replicate 256 empty) × (now mins ≡ replicate 72 empty) × (now found ≡ replicate 256 noLink) ⌝ }
+    ensures { λ _. ⌜ Begun (lentNet profile nodes root starts ends narrow wide) (lent parent) (left dist) (left keys) (left mins) (left found) × (length (left first) ≡ mostNodes) ⌝ }
 {
     lift::lift(
+        profile,
         nodes,
         root,
         starts,
         ends,
-        costs,
+        narrow,
+        wide,
         at,
         parent,
         dist,
@@ -241,11 +329,13 @@ fn reseed_all(
     );
     *first = [NO_LINK; 256];
     settle::offer_into(
+        profile,
         nodes,
         root,
         starts,
         ends,
-        costs,
+        narrow,
+        wide,
         true,
         first,
         dist,
@@ -255,30 +345,34 @@ fn reseed_all(
     );
 }
 
-// The next tree under these costs from arrays that needn't have fitted any.
-pub fn mend(
+// The next tree from arrays that needn't have fitted any.
+fn mend_level(
+    profile: Profile,
     nodes: usize,
     root: usize,
     starts: &[u16],
     ends: &[u16],
-    costs: &[u16],
+    narrow: &[u16],
+    wide: &[u32],
     dist: &mut [u32; 256],
     parent: &mut [u16; 256],
     first: &mut [u16; 256],
 )
-    requires { ⌜ Proper (table nodes root (now starts) (now ends) (now costs)) × Old (table nodes root (now starts) (now ends) (now costs)) (arrays (now dist) (now parent) (now first)) ⌝ }
-    ensures { λ _. ⌜ Regrown (table nodes root (now (starts .entry)) (now (ends .entry)) (now (costs .entry))) (now (parent .entry)) (arrays (now (dist .exit)) (now (parent .exit)) (now (first .exit))) ⌝ }
+    requires { ⌜ Proper (givenTable nodes root starts ends narrow wide) × Level (givenNet profile nodes root starts ends narrow wide) × Old profile (givenTable nodes root starts ends narrow wide) (treeAt dist parent first) ⌝ }
+    ensures { λ _. ⌜ Regrown profile (lentTableAt nodes root starts ends narrow wide) (lent parent) (leftTree dist parent first) ⌝ }
 {
-    let at = settle::first_links(starts);
+    let at = heads::first_links(starts);
     let mut keys = [queue::EMPTY; 256];
     let mut mins = [queue::EMPTY; 72];
     let mut found = [NO_LINK; 256];
     reseed_all(
+        profile,
         nodes,
         root,
         starts,
         ends,
-        costs,
+        narrow,
+        wide,
         &at,
         parent,
         dist,
@@ -288,16 +382,114 @@ pub fn mend(
         &mut found,
     );
     finish(
+        profile,
         nodes,
         root,
         starts,
         ends,
-        costs,
+        narrow,
+        wide,
         &at,
         dist,
         &mut keys,
         &mut mins,
         &mut found,
+        parent,
+        first,
+    );
+}
+
+// The tree of a fresh build. Whatever the arrays held is forgotten.
+pub fn grow(
+    profile: Profile,
+    nodes: usize,
+    root: usize,
+    starts: &[u16],
+    ends: &[u16],
+    narrow: &[u16],
+    wide: &[u32],
+    dist: &mut [u32; 256],
+    parent: &mut [u16; 256],
+    first: &mut [u16; 256],
+)
+    requires { ⌜ Proper (givenTable nodes root starts ends narrow wide) × Ample (givenNet profile nodes root starts ends narrow wide) × Whole (treeAt dist parent first) ⌝ }
+    ensures { λ _. ⌜ Grown profile (lentTableAt nodes root starts ends narrow wide) (leftTree dist parent first) ⌝ }
+{
+    let level = level::leveled(profile);
+    grow_level(
+        level,
+        nodes,
+        root,
+        starts,
+        ends,
+        narrow,
+        wide,
+        dist,
+        parent,
+        first,
+    );
+}
+
+// The next tree under these costs, where the arrays come in as one that fitted before, and `changed` names the links whose
+// cost is another.
+pub fn regrow(
+    profile: Profile,
+    nodes: usize,
+    root: usize,
+    starts: &[u16],
+    ends: &[u16],
+    narrow: &[u16],
+    wide: &[u32],
+    changed: &[u16],
+    dist: &mut [u32; 256],
+    parent: &mut [u16; 256],
+    first: &mut [u16; 256],
+)
+    requires { ⌜ Proper (givenTable nodes root starts ends narrow wide) × Ample (givenNet profile nodes root starts ends narrow wide) × Fitted profile (givenTable nodes root starts ends narrow wide) (now changed) (treeAt dist parent first) ⌝ }
+    ensures { λ _. ⌜ Regrown profile (lentTableAt nodes root starts ends narrow wide) (lent parent) (leftTree dist parent first) ⌝ }
+{
+    let level = level::leveled(profile);
+    regrow_level(
+        level,
+        nodes,
+        root,
+        starts,
+        ends,
+        narrow,
+        wide,
+        changed,
+        dist,
+        parent,
+        first,
+    );
+}
+
+// The next tree under these costs from arrays that needn't have fitted any.
+pub fn mend(
+    profile: Profile,
+    nodes: usize,
+    root: usize,
+    starts: &[u16],
+    ends: &[u16],
+    narrow: &[u16],
+    wide: &[u32],
+    dist: &mut [u32; 256],
+    parent: &mut [u16; 256],
+    first: &mut [u16; 256],
+)
+    requires { ⌜ Proper (givenTable nodes root starts ends narrow wide) × Ample (givenNet profile nodes root starts ends narrow wide) × Old profile (givenTable nodes root starts ends narrow wide) (treeAt dist parent first) ⌝ }
+    ensures { λ _. ⌜ Regrown profile (lentTableAt nodes root starts ends narrow wide) (lent parent) (leftTree dist parent first) ⌝ }
+{
+    let level = level::leveled(profile);
+    mend_level(
+        level,
+        nodes,
+        root,
+        starts,
+        ends,
+        narrow,
+        wide,
+        dist,
         parent,
         first,
     );

@@ -1,89 +1,50 @@
 // Which distances still stand after costs have changed: a node whose parent link no longer carries it goes to
 // unreached, and so does every node that hangs on it.
 ghost use mathlib.Core.Path.{_≡_};
-ghost use Prim.Native.Nat.{_≤_, _<_};
-ghost use lib.ListN.{length};
-ghost use Rattle.rules.specs.Columns.{Proper, table, mostNodes, unreached};
-ghost use Rattle.settle.specs.Afoot.{Rows, Lined, FirstOf, Firsts};
-ghost use Rattle.settle.specs.Finding.{Offers, Carries};
-ghost use Rattle.lift.specs.Loose.{Says, Marked, Rooted, Parents, AllStand, StandBut, StandApart, Liftable, Lifted, Fates, LiftedRows, Noted};
-
-// The distance of an unreached node.
-use rules::UNREACHED;
-
-const NO_LINK: u16 = 65_535;
-
-// A link of this cost from a node at distance `from` offers no more than `to`. Whether it is usable is asked last.
-fn offers(from: u32, cost: u16, to: u32) -> bool
-    requires { ⌜ from ≤ unreached ⌝ }
-    ensures { λ r. ⌜ Says (Offers from cost to) r ⌝ }
-{
-    if from == UNREACHED {
-        return false;
-    }
-    if to < from + cost as u32 {
-        return false;
-    }
-    0 < cost
-}
-
-// The link carries node v.
-fn carries(
-    nodes: usize,
-    root: usize,
-    starts: &[u16],
-    ends: &[u16],
-    costs: &[u16],
-    link: u16,
-    v: usize,
-    dist: &[u32; 256],
-) -> bool
-    requires { ⌜ Proper (table nodes root (now starts) (now ends) (now costs)) × Marked (now dist) × (v < mostNodes) ⌝ }
-    ensures { λ r. ⌜ Says (Carries (table nodes root (now (starts .entry)) (now (ends .entry)) (now (costs .entry))) (now (dist .entry)) link v) r ⌝ }
-{
-    let k = link as usize;
-    if starts.len() <= k {
-        return false;
-    }
-    if ends[k] as usize != v {
-        return false;
-    }
-    let start = starts[k] as usize;
-    offers(dist[start], costs[k], dist[v])
-}
-
-// Node v waits to be lifted, if it is reached.
-fn note(v: usize, dist: &[u32; 256], keys: &mut [u64; 256], mins: &mut [u64; 72])
-    requires { ⌜ Lined (now dist) (now keys) (now mins) × (v < mostNodes) ⌝ }
-    ensures { λ _. ⌜ Noted (now (dist .entry)) (now (keys .entry)) v (now (keys .exit)) (now (mins .exit)) ⌝ }
-{
-    let d = dist[v];
-    if d < UNREACHED {
-        queue::put(keys, mins, v, d);
-    }
-}
+ghost use lib.ListN.{length, getD};
+ghost use Rattle.rules.specs.Columns.{Proper, mostNodes};
+ghost use Rattle.rules.specs.Lent.{lent, left};
+ghost use Rattle.usable.specs.Standing.{givenTable, givenNet, lentNet};
+ghost use Rattle.heads.specs.Heads.{Head, Heads};
+ghost use Rattle.afoot.specs.Afoot.{Naming};
+ghost use Rattle.lift.specs.Loose.{Rooted, Parents, AllStand, StandBut, StandApart, Liftable, Lifted, Fates, LiftedRows};
+use rules::NO_LINK;
+use rules::Profile;
 
 // Each reached node but the root that its parent link doesn't carry waits.
 fn note_loose(
+    profile: Profile,
     nodes: usize,
     root: usize,
     starts: &[u16],
     ends: &[u16],
-    costs: &[u16],
+    narrow: &[u16],
+    wide: &[u32],
     parent: &[u16; 256],
     dist: &[u32; 256],
     keys: &mut [u64; 256],
     mins: &mut [u64; 72],
 )
-    requires { ⌜ Proper (table nodes root (now starts) (now ends) (now costs)) × Rooted (table nodes root (now starts) (now ends) (now costs)) (now parent) × Liftable (table nodes root (now starts) (now ends) (now costs)) (now dist) (now keys) (now mins) ⌝ }
-    ensures { λ _. ⌜ AllStand (table nodes root (now (starts .entry)) (now (ends .entry)) (now (costs .entry))) (now (parent .entry)) (now (dist .entry)) (now (keys .exit)) (now (mins .exit)) ⌝ }
+    requires { ⌜ Proper (givenTable nodes root starts ends narrow wide) × Rooted (givenNet profile nodes root starts ends narrow wide) (now parent) × Liftable (givenNet profile nodes root starts ends narrow wide) (now dist) (now keys) (now mins) ⌝ }
+    ensures { λ _. ⌜ AllStand (lentNet profile nodes root starts ends narrow wide) (lent parent) (lent dist) (left keys) (left mins) ⌝ }
 {
     let mut v: usize = 0;
     while v < 256 {
         let next = v + 1;
         if v != root {
-            if !carries(nodes, root, starts, ends, costs, parent[v], v, dist) {
-                note(v, dist, keys, mins);
+            if !carries::carries(
+                profile,
+                nodes,
+                root,
+                starts,
+                ends,
+                narrow,
+                wide,
+                parent[v],
+                v,
+                dist,
+            ) {
+                carries::note(profile.mark, v, dist, keys, mins);
             }
         }
         v = next;
@@ -92,19 +53,21 @@ fn note_loose(
 
 // Each reached node waits whose parent link a row touches and that it carries no longer. Of the others nothing is asked.
 fn note_rows(
+    profile: Profile,
     nodes: usize,
     root: usize,
     starts: &[u16],
     ends: &[u16],
-    costs: &[u16],
+    narrow: &[u16],
+    wide: &[u32],
     changed: &[u16],
     parent: &[u16; 256],
     dist: &[u32; 256],
     keys: &mut [u64; 256],
     mins: &mut [u64; 72],
 )
-    requires { ⌜ Proper (table nodes root (now starts) (now ends) (now costs)) × Parents (table nodes root (now starts) (now ends) (now costs)) (now parent) × Rows (length (now starts)) (now changed) × StandApart (table nodes root (now starts) (now ends) (now costs)) (now parent) (now changed) 0 (now dist) (now keys) (now mins) ⌝ }
-    ensures { λ _. ⌜ AllStand (table nodes root (now (starts .entry)) (now (ends .entry)) (now (costs .entry))) (now (parent .entry)) (now (dist .entry)) (now (keys .exit)) (now (mins .exit)) ⌝ }
+    requires { ⌜ Proper (givenTable nodes root starts ends narrow wide) × Parents (givenNet profile nodes root starts ends narrow wide) (now parent) × Naming (length (now starts)) (now changed) × StandApart (givenNet profile nodes root starts ends narrow wide) (now parent) (now changed) 0 (now dist) (now keys) (now mins) ⌝ }
+    ensures { λ _. ⌜ AllStand (lentNet profile nodes root starts ends narrow wide) (lent parent) (lent dist) (left keys) (left mins) ⌝ }
 {
     let mut i: usize = 0;
     while i < changed.len() {
@@ -113,8 +76,19 @@ fn note_rows(
         let k = link as usize;
         let end = ends[k] as usize;
         if parent[end] == link {
-            if !carries(nodes, root, starts, ends, costs, link, end, dist) {
-                note(end, dist, keys, mins);
+            if !carries::carries(
+                profile,
+                nodes,
+                root,
+                starts,
+                ends,
+                narrow,
+                wide,
+                link,
+                end,
+                dist,
+            ) {
+                carries::note(profile.mark, end, dist, keys, mins);
             }
         }
         i = next;
@@ -123,11 +97,13 @@ fn note_rows(
 
 // Node u went to unreached: each reached node that hangs on it waits. Links that leave one node follow each other.
 fn note_hung_on(
+    profile: Profile,
     nodes: usize,
     root: usize,
     starts: &[u16],
     ends: &[u16],
-    costs: &[u16],
+    narrow: &[u16],
+    wide: &[u32],
     u: usize,
     first: u16,
     parent: &[u16; 256],
@@ -135,8 +111,8 @@ fn note_hung_on(
     keys: &mut [u64; 256],
     mins: &mut [u64; 72],
 )
-    requires { ⌜ Proper (table nodes root (now starts) (now ends) (now costs)) × Rooted (table nodes root (now starts) (now ends) (now costs)) (now parent) × FirstOf (now starts) u first × StandBut (table nodes root (now starts) (now ends) (now costs)) (now parent) u (now dist) (now keys) (now mins) ⌝ }
-    ensures { λ _. ⌜ AllStand (table nodes root (now (starts .entry)) (now (ends .entry)) (now (costs .entry))) (now (parent .entry)) (now (dist .entry)) (now (keys .exit)) (now (mins .exit)) ⌝ }
+    requires { ⌜ Proper (givenTable nodes root starts ends narrow wide) × Rooted (givenNet profile nodes root starts ends narrow wide) (now parent) × Head (length (now starts)) (λ k. getD (now starts) k 0) u first × StandBut (givenNet profile nodes root starts ends narrow wide) (now parent) u (now dist) (now keys) (now mins) ⌝ }
+    ensures { λ _. ⌜ AllStand (lentNet profile nodes root starts ends narrow wide) (lent parent) (lent dist) (left keys) (left mins) ⌝ }
 {
     let mut k = first as usize;
     while k < starts.len() {
@@ -146,7 +122,7 @@ fn note_hung_on(
         let next = k + 1;
         let end = ends[k] as usize;
         if parent[end] == k as u16 {
-            note(end, dist, keys, mins);
+            carries::note(profile.mark, end, dist, keys, mins);
         }
         k = next;
     }
@@ -155,11 +131,13 @@ fn note_hung_on(
 // Until no node waits: the waiting node of least distance goes to unreached, and loses its first link. By that a lifted
 // node is known.
 fn lift_noted(
+    profile: Profile,
     nodes: usize,
     root: usize,
     starts: &[u16],
     ends: &[u16],
-    costs: &[u16],
+    narrow: &[u16],
+    wide: &[u32],
     at: &[u16; 256],
     parent: &[u16; 256],
     dist: &mut [u32; 256],
@@ -167,21 +145,23 @@ fn lift_noted(
     keys: &mut [u64; 256],
     mins: &mut [u64; 72],
 )
-    requires { ⌜ Proper (table nodes root (now starts) (now ends) (now costs)) × Firsts (now starts) (now at) × Rooted (table nodes root (now starts) (now ends) (now costs)) (now parent) × AllStand (table nodes root (now starts) (now ends) (now costs)) (now parent) (now dist) (now keys) (now mins) × (length (now first) ≡ mostNodes) ⌝ }
-    ensures { λ _. ⌜ Lifted (table nodes root (now (starts .entry)) (now (ends .entry)) (now (costs .entry))) (now (parent .entry)) (now (dist .exit)) (now (keys .exit)) (now (mins .exit)) × Fates (now (dist .entry)) (now (dist .exit)) (now (first .exit)) ⌝ }
+    requires { ⌜ Proper (givenTable nodes root starts ends narrow wide) × Heads (now starts) (now at) × Rooted (givenNet profile nodes root starts ends narrow wide) (now parent) × AllStand (givenNet profile nodes root starts ends narrow wide) (now parent) (now dist) (now keys) (now mins) × (length (now first) ≡ mostNodes) ⌝ }
+    ensures { λ _. ⌜ Lifted (lentNet profile nodes root starts ends narrow wide) (lent parent) (left dist) (left keys) (left mins) × Fates (lentNet profile nodes root starts ends narrow wide) (lent dist) (left dist) (left first) ⌝ }
 {
     let mut key = queue::least(mins);
     while key != queue::EMPTY {
         let u = (key % 256) as usize;
         queue::take(keys, mins, u);
-        dist[u] = UNREACHED;
+        dist[u] = profile.mark;
         first[u] = NO_LINK;
         note_hung_on(
+            profile,
             nodes,
             root,
             starts,
             ends,
-            costs,
+            narrow,
+            wide,
             u,
             at[u],
             parent,
@@ -196,11 +176,13 @@ fn lift_noted(
 // Every node's parent link is asked. What is left has a walk at most as long as its distance, over these costs and
 // whatever links the parents are.
 pub fn lift(
+    profile: Profile,
     nodes: usize,
     root: usize,
     starts: &[u16],
     ends: &[u16],
-    costs: &[u16],
+    narrow: &[u16],
+    wide: &[u32],
     at: &[u16; 256],
     parent: &[u16; 256],
     dist: &mut [u32; 256],
@@ -208,16 +190,30 @@ pub fn lift(
     keys: &mut [u64; 256],
     mins: &mut [u64; 72],
 )
-    requires { ⌜ Proper (table nodes root (now starts) (now ends) (now costs)) × Firsts (now starts) (now at) × Rooted (table nodes root (now starts) (now ends) (now costs)) (now parent) × Liftable (table nodes root (now starts) (now ends) (now costs)) (now dist) (now keys) (now mins) × (length (now first) ≡ mostNodes) ⌝ }
-    ensures { λ _. ⌜ Lifted (table nodes root (now (starts .entry)) (now (ends .entry)) (now (costs .entry))) (now (parent .entry)) (now (dist .exit)) (now (keys .exit)) (now (mins .exit)) ⌝ }
+    requires { ⌜ Proper (givenTable nodes root starts ends narrow wide) × Heads (now starts) (now at) × Rooted (givenNet profile nodes root starts ends narrow wide) (now parent) × Liftable (givenNet profile nodes root starts ends narrow wide) (now dist) (now keys) (now mins) × (length (now first) ≡ mostNodes) ⌝ }
+    ensures { λ _. ⌜ Lifted (lentNet profile nodes root starts ends narrow wide) (lent parent) (left dist) (left keys) (left mins) ⌝ }
 {
-    note_loose(nodes, root, starts, ends, costs, parent, dist, keys, mins);
-    lift_noted(
+    note_loose(
+        profile,
         nodes,
         root,
         starts,
         ends,
-        costs,
+        narrow,
+        wide,
+        parent,
+        dist,
+        keys,
+        mins,
+    );
+    lift_noted(
+        profile,
+        nodes,
+        root,
+        starts,
+        ends,
+        narrow,
+        wide,
         at,
         parent,
         dist,
@@ -230,11 +226,13 @@ pub fn lift(
 // The same where only the parent links that the rows touch are asked, since every other carries its node. Tells whether a
 // node was lifted; then `at` has each node's first leaving link.
 pub fn lift_rows(
+    profile: Profile,
     nodes: usize,
     root: usize,
     starts: &[u16],
     ends: &[u16],
-    costs: &[u16],
+    narrow: &[u16],
+    wide: &[u32],
     changed: &[u16],
     at: &mut [u16; 256],
     parent: &[u16; 256],
@@ -243,15 +241,17 @@ pub fn lift_rows(
     keys: &mut [u64; 256],
     mins: &mut [u64; 72],
 ) -> bool
-    requires { ⌜ Proper (table nodes root (now starts) (now ends) (now costs)) × Parents (table nodes root (now starts) (now ends) (now costs)) (now parent) × Rows (length (now starts)) (now changed) × StandApart (table nodes root (now starts) (now ends) (now costs)) (now parent) (now changed) 0 (now dist) (now keys) (now mins) × (length (now first) ≡ mostNodes) ⌝ }
-    ensures { λ r. ⌜ Lifted (table nodes root (now (starts .entry)) (now (ends .entry)) (now (costs .entry))) (now (parent .entry)) (now (dist .exit)) (now (keys .exit)) (now (mins .exit)) × LiftedRows (now (starts .entry)) (now (dist .entry)) (now (first .entry)) (now (at .exit)) (now (dist .exit)) (now (first .exit)) r ⌝ }
+    requires { ⌜ Proper (givenTable nodes root starts ends narrow wide) × Parents (givenNet profile nodes root starts ends narrow wide) (now parent) × Naming (length (now starts)) (now changed) × StandApart (givenNet profile nodes root starts ends narrow wide) (now parent) (now changed) 0 (now dist) (now keys) (now mins) × (length (now first) ≡ mostNodes) ⌝ }
+    ensures { λ r. ⌜ Lifted (lentNet profile nodes root starts ends narrow wide) (lent parent) (left dist) (left keys) (left mins) × LiftedRows (lentNet profile nodes root starts ends narrow wide) (lent starts) (lent dist) (lent first) (left at) (left dist) (left first) r ⌝ }
 {
     note_rows(
+        profile,
         nodes,
         root,
         starts,
         ends,
-        costs,
+        narrow,
+        wide,
         changed,
         parent,
         dist,
@@ -261,13 +261,15 @@ pub fn lift_rows(
     if queue::least(mins) == queue::EMPTY {
         return false;
     }
-    *at = settle::first_links(starts);
+    *at = heads::first_links(starts);
     lift_noted(
+        profile,
         nodes,
         root,
         starts,
         ends,
-        costs,
+        narrow,
+        wide,
         at,
         parent,
         dist,

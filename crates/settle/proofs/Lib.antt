@@ -1,8 +1,0 @@
--- Theorems about specs/ and the proofs of the functions, in reading order.
-pub mod Reach
-pub mod Offers
-pub mod Finds
-pub mod Heard
-pub mod Weight
-pub mod Rounds
-pub mod Firsts

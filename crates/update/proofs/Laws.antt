@@ -67,7 +67,7 @@ module _ (t : Table) (old : Arrays) (batch : List Change) (list : List ℕ) (e :
       at (no l) = omega arith
 
   -- the old tree is one to regrow from, over the new costs
-  update-old : Whole old → SixteenBit (t .costs) → Old (after t batch) old
+  update-old : Whole old → SixteenBit (t .costs) → Old narrow (after t batch) old
   update-old w c =
       let fine = tree-accepted t old w (update-links t old batch list e) in
       let short = fits-shortest (legal (fine .0)) (fine .1) in
@@ -83,13 +83,13 @@ module _ (t : Table) (old : Arrays) (batch : List Change) (list : List ℕ) (e :
 
   -- and it fitted while the rows' links had other costs
   pub update-fitted : (changed newcosts : List ℕ) → batch ≡ rowsOfColumns changed newcosts → Whole old → SixteenBit (t .costs)
-      → Fitted (after t batch) (take (length batch) changed) old
+      → Fitted narrow (after t batch) (take (length batch) changed) old
   update-fitted changed newcosts is w c =
       record {
         old = update-old w c;
         named = record { named = λ m l. rw (link-at m (in-batch m l)) (rw (← update-proper .costs-long) at (update-named .named m (in-batch m l))) };
         costs = t .costs;
-        same = λ k apart. sym (applied-other batch (t .costs) k (λ m l e. apart m (omega arith) (rw length-take-changed l) (link-at m l ∙ e)));
+        same = λ k apart. record { cost = sym (applied-other batch (t .costs) k (λ m l e. apart m (omega arith) (rw length-take-changed l) (link-at m l ∙ e))); is-open = refl };
         fits = tree-accepted t old w (update-links t old batch list e) .1;
       }
     where
@@ -102,7 +102,7 @@ module _ (t : Table) (old : Arrays) (batch : List Change) (list : List ℕ) (e :
       link-at : (m : ℕ) → m < length batch → getD (take (length batch) changed) m 0 ≡ linkAt batch m
       link-at m l = getD-take (length batch) changed m 0 l ∙ rw is (sym (row-at changed newcosts m (rw is at l) .link))
 
-  pub update-updated : {new : Arrays} {costs listed : List ℕ} {count : ℕ} → Regrown (after t batch) (old .parent) new
+  pub update-updated : {new : Arrays} {costs listed : List ℕ} {count : ℕ} → Regrown narrow (after t batch) (old .parent) new
       → costs ≡ applied batch (t .costs) → ListedBelow old new (t .nodes) list listed count → Updated t old batch list accepted new costs listed count
   update-updated {new} g c l =
       rw (c, l .front narrow, l .counted narrow) (updated (changedBelow (rowsOf old) (rowsOf new) (t .nodes)) e (g .whole) (g .next) refl)

@@ -31,12 +31,16 @@ fn apply(
     let old_first = *first;
     batch::write_costs(changed, newcosts, costs);
     let rows = batch::row_count(changed, newcosts);
+    let none = [0u32; 0];
+    let profile = rules::narrow();
     grow::regrow(
+        profile,
         nodes,
         root,
         starts,
         ends,
         costs,
+        &none,
         &changed[..rows],
         dist,
         parent,

@@ -1,25 +1,24 @@
--- `grow::mend` meets its contract, by its seed and the loop. Assumes nothing.
-use mathlib.Core.Path.{refl}
+-- `grow::mend` meets its contract: taking the mark for the ceiling makes no other tree. Assumes nothing.
 use borrow.Author.Needs.{needs}
-use Rattle.hang.proofs.Whole.{leaving}
+use Rattle.grow.proofs.Laws.{level, old-down, regrown-up}
 use Rattle.grow.proofs.mend.Statement.{statement}
 use Rattle.grow.proofs.mend.Tie as tie
 
-first-links-requires : tie.Need-first-links-requires
-first-links-requires c κs = leaving (c .before .before .before .pre .0)
+leveled-requires : tie.Need-leveled-requires
+leveled-requires c κs = search needs
 
-reseed-all-requires : tie.Need-reseed-all-requires
-reseed-all-requires c κs =
-    let pre = c .before .before .before .before .before .before .before .before .before .before .before .pre in
-    (pre .0, c .before .before .before .before .before .before .before .first-links .ensures, pre .1, refl, refl, refl)
-
-finish-requires : tie.Need-finish-requires
-finish-requires c κs =
-    let pre = c .before .before .before .before .before .before .before .before .before .before .before .before .before .before .before .before .before .before .before .pre in
-    (pre .0, c .before .before .before .before .before .before .before .before .before .before .before .before .before .before .before .first-links .ensures, c .before .before .before .before .before .before .before .reseed-all .ensures .0, pre .1 .whole .parent, c .before .before .before .before .before .before .before .reseed-all .ensures .1)
+mend-level-requires : tie.Need-mend-level-requires
+mend-level-requires c κs =
+    let start = c .before .before .before .before .before .before .before .before in
+    let p = start .args .profile in
+    let pre = start .pre in
+    let same = c .before .before .before .leveled .ensures in
+    (pre .0, rw same (level p (pre .0) (pre .1)), rw same (old-down p (pre .0) (pre .1) (pre .2)))
 
 returns : tie.Need-returns
-returns c = search needs
+returns c =
+    let start = c .before .before .before .before .before .before .before .before .before in
+    regrown-up (start .args .profile) (start .pre .0) (start .pre .1) (rw (c .before .before .before .before .leveled .ensures) at (c .mend-level .ensures))
 
 pub mend-spec : {M : Type 1} → statement M
-mend-spec = tie.close (tie.spec first-links-requires reseed-all-requires finish-requires returns)
+mend-spec = tie.close (tie.spec leveled-requires mend-level-requires returns)

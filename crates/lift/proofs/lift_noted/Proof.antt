@@ -3,26 +3,27 @@
 use mathlib.Core.Path.{refl}
 use native.Mathlib.Omega.{arith}
 use borrow.Author.Needs.{needs}
-use Rattle.rules.specs.Columns.{table}
-use Rattle.settle.proofs.Rounds.{chosen}
 use Rattle.lift.specs.Loose.{stays, reachedCount}
 use Rattle.lift.proofs.Lifts.{Lifting, lift-stands, lift-falls, fates-more, lifted}
+use Rattle.afoot.proofs.Rounds.{chosen}
+use Rattle.rules.specs.Columns.{netIn}
+use Rattle.usable.specs.Standing.{tableAt}
 use Rattle.lift.proofs.lift_noted.Statement.{statement}
 use Rattle.lift.proofs.lift_noted.Tie as tie
 
 abbrev Inv-loop : tie.InvT-loop
-Inv-loop nodes root starts ends costs at parent dist₀ first₀ keys₀ mins₀ key₀ dist first keys mins key =
-    Lifting (table nodes root starts ends costs) parent dist₀ dist first keys mins key
+Inv-loop profile nodes root starts ends narrow wide at parent dist₀ first₀ keys₀ mins₀ key₀ dist first keys mins key =
+    Lifting (netIn profile (tableAt nodes root starts ends narrow wide)) parent dist₀ dist first keys mins key
 
 abbrev μ-loop : tie.MeasureT-loop
-μ-loop nodes root starts ends costs at parent dist₀ first₀ keys₀ mins₀ key₀ dist first keys mins key = reachedCount dist
+μ-loop profile nodes root starts ends narrow wide at parent dist₀ first₀ keys₀ mins₀ key₀ dist first keys mins key = reachedCount (netIn profile (tableAt nodes root starts ends narrow wide)) dist
 
 least-requires : tie.Need-least-requires Inv-loop μ-loop
 least-requires c κs = search needs
 
 loop-holds : tie.Need-loop-holds Inv-loop μ-loop
 loop-holds c =
-    record { stands = c .before .before .before .before .before .pre .3; least = c .least .ensures; fates = record { long = c .before .before .before .before .before .pre .4; each = λ v. stays refl } }
+    record { stands = c .before .before .before .before .before .before .pre .3; least = c .least .ensures; fates = record { long = c .before .before .before .before .before .before .pre .4; each = λ v. stays refl } }
 
 take-requires : tie.Need-take-requires Inv-loop μ-loop
 take-requires c κs = (c .before .before .before .loop .inv .stands .lined .queue, omega arith)
@@ -43,11 +44,11 @@ mul-note-hung-on : tie.Need-mul-note-hung-on Inv-loop μ-loop
 mul-note-hung-on c = search needs
 
 element-copy-out-note-hung-on : tie.Need-element-copy-out-note-hung-on Inv-loop μ-loop
-element-copy-out-note-hung-on c = omega (arith, c .before .before .before .before .before .before .before .before .before .before .pre .1 .long)
+element-copy-out-note-hung-on c = omega (arith, c .before .before .before .before .before .before .before .before .before .before .before .pre .1 .long)
 
 note-hung-on-requires : tie.Need-note-hung-on-requires Inv-loop μ-loop
 note-hung-on-requires c κs =
-    let start = c .before .before .before .before .before .before .before .before .before .before .before .before .before .before in
+    let start = c .before .before .before .before .before .before .before .before .before .before .before .before .before .before .before in
     let inv = c .before .before .before .before .before .before .before .before .loop .inv in
     let w = chosen (inv .stands .lined) (inv .least) (c .before .before .before .before .before .before .before .loop-test .taken) in
     (start .pre .0, start .pre .2, start .pre .1 .each _ (w .is-node), lift-stands (inv .stands) w (c .before .before .before .before .take .ensures))

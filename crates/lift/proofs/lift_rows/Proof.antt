@@ -1,15 +1,15 @@
 -- `lift::lift_rows` meets its contract: where no node was noted nothing changes. Assumes nothing.
 use mathlib.Core.Path.{refl}
 use borrow.Author.Needs.{needs}
-use Rattle.hang.proofs.Whole.{leaving}
 use Rattle.lift.specs.Loose.{none, some}
 use Rattle.lift.proofs.Lifts.{lifted}
+use Rattle.basics.proofs.Arrays.{leaving}
 use Rattle.lift.proofs.lift_rows.Statement.{statement}
 use Rattle.lift.proofs.lift_rows.Tie as tie
 
 note-rows-requires : tie.Need-note-rows-requires
 note-rows-requires c κs =
-    let pre = c .before .before .before .before .before .before .before .pre in
+    let pre = c .before .before .before .before .before .before .before .before .pre in
     (pre .0, pre .1, pre .2, pre .3)
 
 least-requires : tie.Need-least-requires
@@ -20,11 +20,11 @@ returns c =
     (lifted (c .before .before .before .note-rows .ensures) (c .before .least .ensures) (c .if1 .taken), none refl refl)
 
 first-links-requires : tie.Need-first-links-requires
-first-links-requires c κs = leaving (c .before .before .before .before .before .before .before .before .before .before .before .pre .0)
+first-links-requires c κs = leaving (c .before .before .before .before .before .before .before .before .before .before .before .before .pre .0)
 
 lift-noted-requires : tie.Need-lift-noted-requires
 lift-noted-requires c κs =
-    let pre = c .before .before .before .before .before .before .before .before .before .before .before .before .before .before .before .before .before .pre in
+    let pre = c .before .before .before .before .before .before .before .before .before .before .before .before .before .before .before .before .before .before .pre in
     (pre .0, c .before .before .before .before .before .first-links .ensures, pre .1 .rooted, c .before .before .before .before .before .before .before .before .before .note-rows .ensures, pre .4)
 
 returns-2 : tie.Need-returns-2

@@ -2,20 +2,21 @@
 use Prim.Native.Nat.{_-_, _<_}
 use native.Mathlib.Omega.{arith}
 use borrow.Author.Needs.{needs}
-use Rattle.rules.specs.Columns.{table}
 use Rattle.lift.specs.Loose.{Loose}
 use Rattle.lift.proofs.Notes.{loose-none, loose-root, loose-carried, loose-waits, loose-all}
+use Rattle.rules.specs.Columns.{netIn}
+use Rattle.usable.specs.Standing.{tableAt}
 use Rattle.lift.proofs.note_loose.Statement.{statement}
 use Rattle.lift.proofs.note_loose.Tie as tie
 
 abbrev Inv-loop : tie.InvT-loop
-Inv-loop nodes root starts ends costs parent dist keys₀ mins₀ v₀ keys mins v = Loose (table nodes root starts ends costs) parent (λ w. w < v) dist keys mins
+Inv-loop profile nodes root starts ends narrow wide parent dist keys₀ mins₀ v₀ keys mins v = Loose (netIn profile (tableAt nodes root starts ends narrow wide)) parent (λ w. w < v) dist keys mins
 
 abbrev μ-loop : tie.MeasureT-loop
-μ-loop nodes root starts ends costs parent dist keys₀ mins₀ v₀ keys mins v = 256 - v
+μ-loop profile nodes root starts ends narrow wide parent dist keys₀ mins₀ v₀ keys mins v = 256 - v
 
 loop-holds : tie.Need-loop-holds Inv-loop μ-loop
-loop-holds c = loose-none (c .before .before .before .pre .2)
+loop-holds c = loose-none (c .before .before .before .before .pre .2)
 
 add-next : tie.Need-add-next Inv-loop μ-loop
 add-next c = search needs
@@ -28,8 +29,8 @@ element-copy-out-carries c = search needs
 
 carries-requires : tie.Need-carries-requires Inv-loop μ-loop
 carries-requires c κs =
-    let start = c .before .before .before .before .before .before .before in
-    (start .pre .0, record { long = start .pre .2 .lined .long; most = start .pre .2 .lined .most }, omega arith)
+    let start = c .before .before .before .before .before .before .before .before in
+    (start .pre .0, start .pre .2 .lined .long, omega arith)
 
 note-requires : tie.Need-note-requires Inv-loop μ-loop
 note-requires c κs = (c .before .before .before .before .before .before .before .loop .inv .lined, omega (arith, c .before .before .before .before .before .before .loop-test .taken))
@@ -45,7 +46,7 @@ loop-less-2 c = search needs
 
 loop-again-2 : tie.Need-loop-again-2 Inv-loop μ-loop
 loop-again-2 c =
-    let start = c .before .before .before .before .before .before .before .before .before in
+    let start = c .before .before .before .before .before .before .before .before .before .before in
     loose-carried (c .before .before .before .before .before .loop .inv) (start .pre .1 .long) (c .before .before .before .before .loop-test .taken) (c .before .carries .ensures) (c .if2 .left)
 
 loop-less-3 : tie.Need-loop-less-3 Inv-loop μ-loop

@@ -1,35 +1,41 @@
 -- `settle::offer_into` meets its contract. The invariant: links that were calm are done, and those before `k` into nodes
 -- without a first link; the measure is the number of links left. Assumes nothing.
-use mathlib.Core.Path.{_≡_, _∙_, sym}
-use mathlib.Core.Logic.{_≢_, inl, inr}
-use Prim.Native.Nat.{_-_, _<_, _≤_}
+use mathlib.Core.Path.{_∙_}
+use Prim.Native.Nat.{_-_, _<_}
 use native.Mathlib.Omega.{arith}
 use lib.ListN.{length, getD}
 use borrow.Author.Needs.{needs}
-use Rattle.rules.specs.Columns.{table, noLink}
+use Rattle.rules.specs.Columns.{netIn, mostNodes, noLink}
 use Rattle.rules.proofs.Logic.{getD-any}
-use Rattle.settle.specs.Afoot.{Calm}
-use Rattle.settle.specs.Finding.{Heard}
-use Rattle.settle.proofs.Offers.{start-is-node, end-is-node}
-use Rattle.settle.proofs.Heard.{Into, heard-fewer, heard-more, calm-none, calm-only, into-none, into-more, into-past, into-all}
+use Rattle.usable.specs.Standing.{tableAt}
+use Rattle.usable.proofs.Reading.{end-has-row}
+use Rattle.afoot.specs.Afoot.{Calm}
+use Rattle.afoot.specs.Finding.{Heard}
+use Rattle.afoot.proofs.Offers.{orderly}
+use Rattle.afoot.proofs.Heard.{Into, heard-fewer, heard-more, calm-none, calm-only, into-none, into-more, into-past, into-all}
 use Rattle.settle.proofs.offer_into.Statement.{statement}
 use Rattle.settle.proofs.offer_into.Tie as tie
 
 abbrev Inv-loop : tie.InvT-loop
-Inv-loop nodes root starts ends costs lifted first dist₀ keys₀ mins₀ found₀ k₀ dist keys mins found k =
-    Heard (table nodes root starts ends costs) (Calm (table nodes root starts ends costs) dist₀ keys₀) dist₀ keys₀ found₀ (Into (table nodes root starts ends costs) dist₀ keys₀ first k) dist keys mins found
+Inv-loop profile nodes root starts ends narrow wide lifted first dist₀ keys₀ mins₀ found₀ k₀ dist keys mins found k =
+    Heard (netIn profile (tableAt nodes root starts ends narrow wide)) (Calm (netIn profile (tableAt nodes root starts ends narrow wide)) dist₀ keys₀) dist₀ keys₀ found₀
+    (Into (netIn profile (tableAt nodes root starts ends narrow wide)) dist₀ keys₀ first k) dist keys mins found
 
 abbrev μ-loop : tie.MeasureT-loop
-μ-loop nodes root starts ends costs lifted first dist₀ keys₀ mins₀ found₀ k₀ dist keys mins found k = length starts - k
+μ-loop profile nodes root starts ends narrow wide lifted first dist₀ keys₀ mins₀ found₀ k₀ dist keys mins found k = length starts - k
+
+-- the link's end is a node
+node : (c : tie.In-loop Inv-loop μ-loop) → getD (c .before .before .before .before .before .before .before .args .ends .now) (c .before .loop .k) 0 < mostNodes
+node c = end-has-row (c .before .before .before .before .before .before .before .pre .0) (c .loop-test .taken)
 
 returns : tie.Need-returns Inv-loop μ-loop
 returns c =
-    let start = c .before .before .before .before in
+    let start = c .before .before .before .before .before in
     heard-fewer (calm-none (start .pre .1) (start .pre .3)) (calm-only _ _ _ (start .args .first .now) (c .if1 .taken))
 
 loop-holds : tie.Need-loop-holds Inv-loop μ-loop
 loop-holds c =
-    let start = c .before .before .before .before in
+    let start = c .before .before .before .before .before in
     heard-fewer (calm-none (start .pre .1) (start .pre .3)) (into-none _ _ _ (start .args .first .now))
 
 add-next : tie.Need-add-next Inv-loop μ-loop
@@ -42,70 +48,44 @@ shared-slice-read-end : tie.Need-shared-slice-read-end Inv-loop μ-loop
 shared-slice-read-end c = search needs
 
 cast-end : tie.Need-cast-end Inv-loop μ-loop
-cast-end c = omega (arith, c .shared-slice-known4 .given (c .before .before .loop .k))
+cast-end c = omega (arith, node (c .before))
 
 mul-if2 : tie.Need-mul-if2 Inv-loop μ-loop
-mul-if2 c =
-    omega (arith, end-is-node (c .before .before .before .before .before .before .before .pre .0) (c .before .before .loop .k) (c .before .loop-test .taken))
+mul-if2 c = omega (arith, node (c .before))
 
 element-copy-out-if2 : tie.Need-element-copy-out-if2 Inv-loop μ-loop
-element-copy-out-if2 c =
-    omega (arith, end-is-node (c .before .before .before .before .before .before .before .pre .0) (c .before .before .loop .k) (c .before .loop-test .taken), c .before .before .before .before .before .before .before .pre .2)
-
-mul-cost : tie.Need-mul-cost Inv-loop μ-loop
-mul-cost c = search needs
-
-shared-slice-read-cost : tie.Need-shared-slice-read-cost Inv-loop μ-loop
-shared-slice-read-cost c = search needs
-
-cast-cost : tie.Need-cast-cost Inv-loop μ-loop
-cast-cost c = omega (arith, c .shared-slice-known5 .given (c .before .before .before .before .before .loop .k))
-
-mul-offer-link : tie.Need-mul-offer-link Inv-loop μ-loop
-mul-offer-link c = search needs
-
-shared-slice-read-offer-link : tie.Need-shared-slice-read-offer-link Inv-loop μ-loop
-shared-slice-read-offer-link c = search needs
-
-mul-offer-link-2 : tie.Need-mul-offer-link-2 Inv-loop μ-loop
-mul-offer-link-2 c = search needs
-
-shared-slice-read-offer-link-2 : tie.Need-shared-slice-read-offer-link-2 Inv-loop μ-loop
-shared-slice-read-offer-link-2 c = search needs
+element-copy-out-if2 c = omega (arith, node (c .before), c .before .before .before .before .before .before .before .before .pre .2)
 
 cast-offer-link : tie.Need-cast-offer-link Inv-loop μ-loop
-cast-offer-link c =
-    omega (arith, c .before .before .before .before .before .before .before .before .before .before .before .before .before .before .before .before .pre .0 .few-links)
+cast-offer-link c = omega (arith, c .before .before .before .before .before .before .before .before .before .before .pre .0 .few-links)
 
 offer-link-requires : tie.Need-offer-link-requires Inv-loop μ-loop
 offer-link-requires c κs =
-    let start = c .before .before .before .before .before .before .before .before .before .before .before .before .before .before .before .before in
-    let loop = c .before .before .before .before .before .before .before .before .before .before .before .loop in
-    let link = c .before .before .before .before .before .before .before .before .before .before .loop-test .taken in
-    (loop .inv .partly .begun .lined, start-is-node (start .pre .0) (loop .k) link, end-is-node (start .pre .0) (loop .k) link, omega (arith, c .before .before .before .before .before .before .shared-slice-known5 .given (loop .k)), loop .inv .goes-on .long)
+    let loop = c .before .before .before .before .before .before .before .before .loop in
+    (c .before .before .before .before .before .before .before .before .before .before .before .before .before .before .pre .0, c .before .before .before .before .before .before .before .loop-test .taken, loop .inv .partly .begun .lined, loop .inv .goes-on .long)
 
 loop-less : tie.Need-loop-less Inv-loop μ-loop
 loop-less c = search needs
 
 loop-again : tie.Need-loop-again Inv-loop μ-loop
 loop-again c =
-    let loop = c .before .before .before .before .before .before .before .before .before .before .before .before .loop in
-    let offered = c .offer-link .ensures in
-    heard-more (loop .inv) (into-more _ _ _ (c .before .before .before .before .before .before .before .before .before .before .before .before .before .before .before .before .before .args .first .now) (loop .k)) (c .before .before .before .before .before .before .before .before .before .before .before .before .before .before .before .before .before .pre .0) (c .before .before .before .before .before .before .before .before .before .before .before .loop-test .taken) (offered .0) (offered .2)
+    let start = c .before .before .before .before .before .before .before .before .before .before .before .before .before .before .before in
+    let loop = c .before .before .before .before .before .before .before .before .before .loop in
+    let told = c .offer-link .ensures in
+    heard-more (loop .inv) (into-more _ _ _ (start .args .first .now) (loop .k)) (orderly (start .args .profile) (start .pre .0)) (c .before .before .before .before .before .before .before .before .loop-test .taken) (told .0) (told .2)
 
 loop-less-2 : tie.Need-loop-less-2 Inv-loop μ-loop
 loop-less-2 c = search needs
 
 loop-again-2 : tie.Need-loop-again-2 Inv-loop μ-loop
 loop-again-2 c =
-    let start = c .before .before .before .before .before .before .before .before .before in
+    let start = c .before .before .before .before .before .before .before .before .before .before in
     let loop = c .before .before .before .before .loop in
-    let some = getD-any (start .args .first .now) (getD (start .args .ends .now) (loop .k) 0) 0 noLink (omega (arith, end-is-node (start .pre .0) (loop .k) (c .before .before .before .loop-test .taken), start .pre .2)) in
+    let some = getD-any (start .args .first .now) (getD (start .args .ends .now) (loop .k) 0) 0 noLink (omega (arith, node (c .before .before .before), start .pre .2)) in
     heard-fewer (loop .inv) (into-past _ _ _ (start .args .first .now) (loop .k) (λ e. c .if2 .left (some ∙ e)))
 
 returns-2 : tie.Need-returns-2 Inv-loop μ-loop
-returns-2 c =
-    heard-fewer (c .before .loop .inv) (into-all _ _ _ (c .before .before .before .before .before .before .args .first .now) (c .before .loop .k) (c .loop-test .left))
+returns-2 c = heard-fewer (c .before .loop .inv) (into-all _ _ _ (c .before .before .before .before .before .before .before .args .first .now) (c .before .loop .k) (c .loop-test .left))
 
 pub offer-into-spec : {M : Type 1} → statement M
 offer-into-spec =
@@ -121,13 +101,6 @@ offer-into-spec =
     cast-end
     mul-if2
     element-copy-out-if2
-    mul-cost
-    shared-slice-read-cost
-    cast-cost
-    mul-offer-link
-    shared-slice-read-offer-link
-    mul-offer-link-2
-    shared-slice-read-offer-link-2
     cast-offer-link
     offer-link-requires
     loop-less

@@ -5,37 +5,37 @@ use Prim.Native.Nat.{_%_}
 use native.Mathlib.Omega.{arith}
 use lib.ListN.{length, length-set}
 use borrow.Author.Needs.{needs}
-use Rattle.rules.specs.Columns.{table, mostNodes}
-use Rattle.rules.specs.Demands.{SixteenBit}
+use Rattle.rules.specs.Columns.{netIn, mostNodes}
+use Rattle.usable.specs.Standing.{tableAt}
 use Rattle.queue.specs.Queue.{LeastKey}
-use Rattle.settle.specs.Afoot.{Every, Afoot, weight}
-use Rattle.settle.specs.Finding.{GoesOn}
-use Rattle.settle.proofs.Finds.{on-none, on-then, on-taken, comes}
-use Rattle.settle.proofs.Rounds.{Chosen, chosen, partly-taken, lighter, settled}
-use Rattle.hang.proofs.Whole.{leaving}
+use Rattle.basics.proofs.Arrays.{leaving}
+use Rattle.afoot.specs.Afoot.{Every, Afoot, weight}
+use Rattle.afoot.specs.Finding.{GoesOn}
+use Rattle.afoot.proofs.Finds.{on-none, on-then, on-taken, comes}
+use Rattle.afoot.proofs.Rounds.{Chosen, chosen, node-taken, lighter, settled}
 use Rattle.settle.proofs.settle.Statement.{statement}
 use Rattle.settle.proofs.settle.Tie as tie
 
 abbrev Inv-loop : tie.InvT-loop
-Inv-loop nodes root starts ends costs at dist₀ keys₀ mins₀ found₀ guesses₀ key₀ dist keys mins found guesses key =
-    Afoot (table nodes root starts ends costs) dist keys mins × LeastKey mins key
-    × GoesOn (table nodes root starts ends costs) Every dist₀ keys₀ found₀ Every dist keys found
+Inv-loop profile nodes root starts ends narrow wide at dist₀ keys₀ mins₀ found₀ guesses₀ key₀ dist keys mins found guesses key =
+    Afoot (netIn profile (tableAt nodes root starts ends narrow wide)) dist keys mins × LeastKey mins key
+    × GoesOn (netIn profile (tableAt nodes root starts ends narrow wide)) Every dist₀ keys₀ found₀ Every dist keys found
     × (length guesses ≡ mostNodes)
 
 abbrev μ-loop : tie.MeasureT-loop
-μ-loop nodes root starts ends costs at dist₀ keys₀ mins₀ found₀ guesses₀ key₀ dist keys mins found guesses key = weight dist keys
+μ-loop profile nodes root starts ends narrow wide at dist₀ keys₀ mins₀ found₀ guesses₀ key₀ dist keys mins found guesses key =
+    weight (netIn profile (tableAt nodes root starts ends narrow wide)) dist keys
 
 -- the node of least key waits
-node : (c : tie.In-loop Inv-loop μ-loop) → Chosen (c .before .loop .dist) (c .before .loop .keys) (c .before .loop .key % 256)
+node : (c : tie.In-loop Inv-loop μ-loop)
+    → Chosen (c .before .before .before .before .before .before .before .before .args .profile .mark) (c .before .loop .dist) (c .before .loop .keys) (c .before .loop .key % 256)
 node c = chosen (c .before .loop .inv .0 .begun .lined) (c .before .loop .inv .1) (c .loop-test .taken)
 
 least-requires : tie.Need-least-requires Inv-loop μ-loop
 least-requires c κs = search needs
 
 loop-holds : tie.Need-loop-holds Inv-loop μ-loop
-loop-holds c =
-    let start = c .before .before .before .before .before in
-    (start .pre .2, c .least .ensures, on-none (start .pre .3), start .pre .4)
+loop-holds c = let start = c .before .before .before .before .before .before in (start .pre .3, c .least .ensures, on-none (start .pre .4), start .pre .5)
 
 take-requires : tie.Need-take-requires Inv-loop μ-loop
 take-requires c κs = (c .before .before .before .loop .inv .0 .begun .lined .queue, node (c .before .before) .is-node)
@@ -47,8 +47,7 @@ mul-first-by : tie.Need-mul-first-by Inv-loop μ-loop
 mul-first-by c = omega (arith, element-copy-out-first-by c)
 
 first-by-requires : tie.Need-first-by-requires Inv-loop μ-loop
-first-by-requires c κs =
-    (leaving (c .before .before .before .before .before .before .before .before .before .before .before .before .pre .0), c .before .before .before .before .before .before .loop .inv .3)
+first-by-requires c κs = (leaving (c .before .before .before .before .before .before .before .before .before .before .before .before .before .pre .0), c .before .before .before .before .before .before .loop .inv .3)
 
 element-write-guesses : tie.Need-element-write-guesses Inv-loop μ-loop
 element-write-guesses c = omega (arith, node (c .before .before .before .before .before .before) .is-node, c .before .before .before .before .before .before .before .loop .inv .3)
@@ -64,10 +63,10 @@ element-copy-out-offer-from c = node (c .before .before .before .before .before 
 
 offer-from-requires : tie.Need-offer-from-requires Inv-loop μ-loop
 offer-from-requires c κs =
-    let start = c .before .before .before .before .before .before .before .before .before .before .before .before .before .before .before .before .before .before in
+    let start = c .before .before .before .before .before .before .before .before .before .before .before .before .before .before .before .before .before .before .before in
     let loop = c .before .before .before .before .before .before .before .before .before .before .before .before .loop in
     let chosen = node (c .before .before .before .before .before .before .before .before .before .before .before) in
-    (start .pre .0, partly-taken (loop .inv .0) chosen (c .before .before .before .before .before .before .before .before .take .ensures), start .pre .1 .each _ (chosen .is-node), chosen .near, loop .inv .2 .long)
+    (start .pre .0, node-taken (loop .inv .0) chosen (c .before .before .before .before .before .before .before .before .take .ensures), start .pre .2 .each _ (chosen .is-node), loop .inv .2 .long)
 
 least-requires-2 : tie.Need-least-requires-2 Inv-loop μ-loop
 least-requires-2 c κs = search needs
@@ -75,25 +74,24 @@ least-requires-2 c κs = search needs
 loop-less : tie.Need-loop-less Inv-loop μ-loop
 loop-less c =
     let loop = c .before .before .before .before .before .before .before .before .before .before .before .before .before .before .before .loop in
-    omega (arith, c .before .before .offer-from .ensures .1, lighter (loop .inv .0) (node (c .before .before .before .before .before .before .before .before .before .before .before .before .before .before)) (c .before .before .before .before .before .before .before .before .before .before .before .take .ensures))
+    omega (arith, c .before .before .offer-from .ensures .lighter, lighter (loop .inv .0) (node (c .before .before .before .before .before .before .before .before .before .before .before .before .before .before)) (c .before .before .before .before .before .before .before .before .before .before .before .take .ensures))
 
 loop-again : tie.Need-loop-again Inv-loop μ-loop
 loop-again c =
     let loop = c .before .before .before .before .before .before .before .before .before .before .before .before .before .before .before .loop in
-    let offered = c .before .before .offer-from .ensures in (
-      offered .0,
+    let served = c .before .before .offer-from .ensures in (
+      served .afoot,
       c .least2 .ensures,
-      on-then (loop .inv .2) (on-then (on-taken (c .before .before .before .before .before .before .before .before .before .before .before .take .ensures) (loop .inv .2 .long)) (offered .2)),
+      on-then (loop .inv .2) (on-then (on-taken (c .before .before .before .before .before .before .before .before .before .before .before .take .ensures) (loop .inv .2 .long)) (served .goes-on)),
       rw length-set (loop .inv .3),
     )
 
 returns : tie.Need-returns Inv-loop μ-loop
 returns c =
-    let start = c .before .before .before .before .before .before .before in
+    let start = c .before .before .before .before .before .before .before .before in
     let loop = c .before .loop in
-    let narrow : SixteenBit (start .args .costs .now) = record { narrow = λ k. omega (arith, c .before .before .before .before .shared-slice-known3 .given k) } in
-    let settled = settled (start .pre .0) narrow (loop .inv .0) (loop .inv .1) (c .loop-test .left) in
-    (settled, comes settled (loop .inv .2), loop .inv .3)
+    let settled = settled (start .pre .1) (loop .inv .0) (loop .inv .1) (c .loop-test .left) in
+    (settled, comes (start .pre .1) settled (loop .inv .2), loop .inv .3)
 
 pub settle-spec : {M : Type 1} → statement M
 settle-spec =

@@ -1,4 +1,0 @@
-pub mod Distances
-pub mod Parents
-pub mod Firsts
-pub mod Whole
