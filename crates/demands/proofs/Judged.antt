@@ -1,4 +1,4 @@
--- What judging accepts: a tree that fits an accepted table, and a table whatever its costs. Assumes nothing.
+-- What judging accepts: a tree that fits an accepted table and no other, and a table whatever its costs. Assumes nothing.
 use mathlib.Core.Path.{_≡_, ap, _∙_}
 use mathlib.Core.List.{List}
 use Prim.Native.Nat.{ℕ}
@@ -11,6 +11,7 @@ use Rattle.rules.specs.declared.Change.{Change}
 use Rattle.rules.proofs.Logic.{T-false, T-true}
 use Rattle.rules.proofs.Check.{breaks-rule}
 use Rattle.rules.proofs.Search.{Seen, none-seen}
+use Rattle.rules.proofs.Judged.{then-first}
 use Rattle.rules.proofs.OneOutcome.{length-applied}
 
 pub fits-accepted : (t : Table) (tree : Arrays) → judgeLinks t ≡ accepted → Fits (netOf t) (rowsOf tree) → judgeTree t tree ≡ accepted
@@ -29,3 +30,8 @@ fits-accepted t tree e f = ap (λ (v : Verdict). v then whenOne mostNodes (break
 pub after-accepted : (t : Table) (batch : List Change) → judgeLinks t ≡ accepted → judgeLinks (after t batch) ≡ accepted
 unfolding judgeLinks
 after-accepted t batch e = rw (length-applied batch (t .costs)) e
+
+-- a tree is accepted over an accepted table alone
+pub tree-table : (t : Table) (tree : Arrays) → judgeTree t tree ≡ accepted → judgeLinks t ≡ accepted
+unfolding judgeTree
+tree-table t tree e = then-first (judgeLinks t) _ e

@@ -18,7 +18,7 @@ use Rattle.rules.proofs.Logic.{true-false}
 use Rattle.rules.proofs.Judged.{then-first, then-second, when-not, links-proper}
 use Rattle.rules.proofs.OneOutcome.{tree-links, length-applied}
 use Rattle.rules.proofs.Accepted.{built-good, update-accept, update-good}
-use Rattle.demands.proofs.Judged.{fits-accepted, after-accepted}
+use Rattle.demands.proofs.Judged.{fits-accepted, after-accepted, tree-table}
 use Rattle.batch.specs.Rows.{rowsOfColumns}
 use Rattle.batch.proofs.Laws.{links-fewer}
 use Rattle.tree.specs.Value.{arraysOf}
@@ -88,10 +88,6 @@ no-rows-accepted t = refl
 rows-none : (changed newcosts : List ℕ) (n : ℕ) → n ≡ 0 → rowsOfColumns (take n changed) (take n newcosts) ≡ []
 unfolding rowsOfColumns
 rows-none changed newcosts n e = rw e refl
-
-tree-links-accepted : (t : Table) (tree : Arrays) → judgeTree t tree ≡ accepted → judgeLinks t ≡ accepted
-unfolding judgeTree
-tree-links-accepted t tree e = then-first (judgeLinks t) _ e
 
 -- ---- NETWORK
 
@@ -254,7 +250,7 @@ module _ {s : State} {starts ends costs changed newcosts list costs' list' : Lis
         few-rows = omega (arith, rows);
         whole = good .whole;
         judged = ap (λ (x : Table). judgeTree x (arraysOf (d .state .tree))) same
-            ∙ fits-accepted (after before batch) (arraysOf (d .state .tree)) (after-accepted before batch (tree-links-accepted before (arraysOf (s .tree)) (t .judged))) (good .fits);
+            ∙ fits-accepted (after before batch) (arraysOf (d .state .tree)) (after-accepted before batch (tree-table before (arraysOf (s .tree)) (t .judged))) (good .fits);
         rows-judged = ap (λ (x : List CostChange). judgeRows (tableOf (d .state) starts ends costs') x) (rows-none changed newcosts (d .state .rows) rows)
             ∙ no-rows-accepted (tableOf (d .state) starts ends costs');
       }

@@ -13,7 +13,7 @@ use Rattle.stream.specs.declared.Item.{Item}
 use Rattle.stream.specs.declared.Item.the-variants.{Network, Link, Change, Apply, Ask, End, UnknownKind, CutShort}
 use Rattle.stream.specs.declared.Body.{Body}
 use Rattle.stream.specs.declared.Read.{Read}
-use Rattle.stream.specs.Records.{bodyLength, bytesIn, numberAt, numbersAt, Told, given, ended, refused, told, toldBody, toldAt, nextBy, recordAt, stands, readBody, readAt, Gives}
+use Rattle.stream.specs.Records.{bodyLength, bytesIn, numberAt, numbersAt, Told, given, ended, refused, told, toldBody, toldAt, nextBy, recordAt, stands, readBody, readAt, GivenAt}
 
 -- no record has this kind
 pub record NoKind (kind : ℕ) : Type 0 where
@@ -111,7 +111,7 @@ module _ (stream : List ℕ) (place : ℕ) where
       at true = (refl, refl)
       at false = body-agrees (bodyLength (getD stream place 0)) refl
 
-  pub is-given : {read : Read} → read ≡ readAt stream place → Gives stream place read
+  pub is-given : {read : Read} → read ≡ readAt stream place → GivenAt stream place read
   is-given e = rw e (record { tells = agrees .0; next-place = agrees .1 })
 
 -- what an item tells says which it is
@@ -140,11 +140,11 @@ pub told-once : {a b : Item} → told a ≡ told b → a ≡ b
 told-once {a} {b} e = sym (item-back a) ∙ ap item-of e ∙ item-back b
 
 -- so one read is given at a place
-pub gives-once : {stream : List ℕ} {place : ℕ} {a b : Read} → Gives stream place a → Gives stream place b → a ≡ b
-gives-once {a = a} {b} g h =
+pub given-once : {stream : List ℕ} {place : ℕ} {a b : Read} → GivenAt stream place a → GivenAt stream place b → a ≡ b
+given-once {a = a} {b} g h =
     let item = told-once (g .tells ∙ sym (h .tells)) in
     let next = g .next-place ∙ sym (h .next-place) in
     λ i. record { item = item i; next = next i }
 
-pub given-is : {stream : List ℕ} {place : ℕ} {read : Read} → Gives stream place read → read ≡ readAt stream place
-given-is {stream} {place} g = gives-once g (is-given stream place refl)
+pub given-is : {stream : List ℕ} {place : ℕ} {read : Read} → GivenAt stream place read → read ≡ readAt stream place
+given-is {stream} {place} g = given-once g (is-given stream place refl)

@@ -70,7 +70,7 @@ told (UnknownKind place) = refused 21 place
 told (CutShort place) = refused 22 place
 
 -- what the reader gives at a place
-pub record Gives (stream : List ℕ) (place : ℕ) (read : Read) : Type 0 where
+pub record GivenAt (stream : List ℕ) (place : ℕ) (read : Read) : Type 0 where
   pub tells : told (read .item) ≡ toldAt stream place
   pub next-place : read .next ≡ nextBy (toldAt stream place) place
 

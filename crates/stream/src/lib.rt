@@ -2,7 +2,7 @@
 ghost use mathlib.Core.Path.{_≡_};
 ghost use Prim.Native.Nat.{_+_, _*_, _≤_};
 ghost use lib.ListN.{length};
-ghost use Rattle.stream.specs.Records.{bodyLength, bytesIn, numberAt, numberOf, recordAt, stands, Gives};
+ghost use Rattle.stream.specs.Records.{bodyLength, bytesIn, numberAt, numberOf, recordAt, stands, GivenAt};
 
 // What stands at a place: a record, the end, or a refusal with the place of its kind byte.
 pub enum Item {
@@ -90,7 +90,7 @@ fn stay(item: Item, place: usize) -> Read
 
 // What stands at a place, whatever the stream and the place are.
 pub fn read_at(stream: &[u8], place: usize) -> Read
-    ensures { λ r. ⌜ Gives (now (stream .entry)) place r ⌝ }
+    ensures { λ r. ⌜ GivenAt (now (stream .entry)) place r ⌝ }
 {
     if stream.len() <= place {
         return stay(Item::End, place);

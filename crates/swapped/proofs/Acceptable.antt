@@ -16,10 +16,10 @@ use Rattle.rules.specs.Columns.{Table, Arrays, after, noLink, mostRows}
 use Rattle.rules.specs.Refusals.{Verdict, accepted, refused, _then_, when, linkAt, namesNoLink, namesAgain, firstBadRow, judgeLinks, judgeTree, judgeRows, judgeBatch, judgeUpdate}
 use Rattle.rules.specs.Jobs.{Updated, updated, not-updated}
 use Rattle.rules.specs.declared.Change.{Change}
-use Rattle.rules.proofs.Logic.{First, first-of, first-is, or-false, true-false}
+use Rattle.rules.proofs.Logic.{First, first-of, first-is, or-l, or-r, or-false, T-false, false-T, true-false}
 use Rattle.rules.proofs.Judged.{then-first, then-second, when-not, not-refused}
 use Rattle.rules.proofs.Accepted.{Accept, update-accept, update-good}
-use Rattle.demands.proofs.Judged.{fits-accepted, after-accepted}
+use Rattle.demands.proofs.Judged.{fits-accepted, after-accepted, tree-table}
 use Rattle.pier.proofs.Pier.{long-enough}
 use Rattle.swapped.specs.Swapped.{withCosts, Acceptable, NoCommonLink}
 
@@ -35,10 +35,6 @@ still-rows t old new batch costs a e =
 pub batch-tree : (t : Table) (old : Arrays) (batch : List Change) → Acceptable t old batch → judgeTree t old ≡ accepted
 unfolding judgeBatch
 batch-tree t old batch a = then-first (judgeTree t old) _ a
-
-tree-table : (t : Table) (old : Arrays) → judgeTree t old ≡ accepted → judgeLinks t ≡ accepted
-unfolding judgeTree
-tree-table t old e = then-first (judgeLinks t) _ e
 
 accepts : {t : Table} {old new : Arrays} {batch : List Change} {list costs listed : List ℕ} {v : Verdict} {count : ℕ}
     → Updated t old batch list v new costs listed count → judgeUpdate t old batch list ≡ accepted → v ≡ accepted
@@ -68,10 +64,6 @@ record GoodRows (links : ℕ) (batch : List Change) : Type 0 where
   named : (row : ℕ) → row < length batch → linkAt batch row < links
   once : (earlier row : ℕ) → earlier < row → row < length batch → linkAt batch earlier ≢ linkAt batch row
 
-or-no : (a b : Bool) → (a || b) ≡ false → (a ≡ false) × (b ≡ false)
-or-no true b e = absurd (true-false e)
-or-no false b e = (refl, e)
-
 module _ (t : Table) (batch : List Change) where
   bad : ℕ → Bool
   bad row = namesNoLink t batch row || namesAgain batch row
@@ -87,8 +79,8 @@ module _ (t : Table) (batch : List Change) where
   good-rows : judgeRows t batch ≡ accepted → GoodRows (length (t .starts)) batch
   unfolding bad namesNoLink namesAgain
   good-rows e = record {
-    named = λ row l. leb-false (length (t .starts)) (linkAt batch row) (or-no _ (namesAgain batch row) (none-bad e row l) .0);
-    once = λ earlier row l m. again earlier row l (or-no (namesNoLink t batch row) _ (none-bad e row m) .1);
+    named = λ row l. leb-false (length (t .starts)) (linkAt batch row) (T-false _ (λ b. false-T (bad row) (none-bad e row l) (or-l (namesNoLink t batch row) (namesAgain batch row) b)));
+    once = λ earlier row l m. again earlier row l (T-false (namesAgain batch row) (λ b. false-T (bad row) (none-bad e row m) (or-r (namesNoLink t batch row) (namesAgain batch row) b)));
   }
     where
       again : (earlier row : ℕ) → earlier < row → namesAgain batch row ≡ false → linkAt batch earlier ≢ linkAt batch row

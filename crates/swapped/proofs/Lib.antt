@@ -1,5 +1,5 @@
 -- The costs that batches leave, which batches stay acceptable, and what is alike; the pier network's parents differ.
 pub mod Costs
 pub mod Acceptable
-pub mod Alike
+pub mod SameEnd
 pub mod Pier

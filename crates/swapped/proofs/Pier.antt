@@ -16,7 +16,7 @@ use Rattle.rules.proofs.Judged.{then-first}
 use Rattle.rules.proofs.Accepted.{built-good, update-accept}
 use Rattle.pier.specs.Pier.{LinesHold, pierLines, pier, rows, padded, tree1, tree2, tree4}
 use Rattle.pier.proofs.Pier.{each, each-holds, pier-holds}
-use Rattle.swapped.specs.Swapped.{withCosts, Arrive, Acceptable, NoCommonLink, AlwaysAlike}
+use Rattle.swapped.specs.Swapped.{withCosts, Arrive, Acceptable, NoCommonLink, AlwaysSame}
 use Rattle.swapped.specs.Pier.{dearer, cheaper, dearerFirst, cheaperFirst, swappedLines}
 
 update-batch : {t : Table} {old new : Arrays} {batch : List Change} {list costs listed : List ℕ} {count : ℕ} → Updated t old batch list accepted new costs listed count → Acceptable t old batch
@@ -76,14 +76,14 @@ no-common = record { apart = λ row at l m. apart row at l m }
     apart zero (suc at) l m e = omega arith
 
 -- parents don't agree in general, nor do first links
-pub parents-differ : AlwaysAlike (λ tree. rowsOf tree .parent) → ⊥
+pub parents-differ : AlwaysSame (λ tree. rowsOf tree .parent) → ⊥
 unfolding tree2 tree4 rows padded
 parents-differ claim =
-    let e = claim .alike whole acceptable-dearer acceptable-cheaper no-common dearer-cheaper cheaper-dearer 2 in
+    let e = claim .same whole acceptable-dearer acceptable-cheaper no-common dearer-cheaper cheaper-dearer 2 in
     omega arith
 
-pub firsts-differ : AlwaysAlike (λ tree. rowsOf tree .first) → ⊥
+pub firsts-differ : AlwaysSame (λ tree. rowsOf tree .first) → ⊥
 unfolding tree2 tree4 rows padded
 firsts-differ claim =
-    let e = claim .alike whole acceptable-dearer acceptable-cheaper no-common dearer-cheaper cheaper-dearer 2 in
+    let e = claim .same whole acceptable-dearer acceptable-cheaper no-common dearer-cheaper cheaper-dearer 2 in
     omega arith

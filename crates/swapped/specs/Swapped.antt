@@ -65,7 +65,7 @@ pub record TwoTight (N : Net) (r : Rows) (v : ℕ) : Type 0 where
 
 -- the same table, and so the same costs; the same distances; the same set of reached nodes; and a node's parent
 -- differs only where at least two usable links into it are tight. First links aren't spoken of
-pub record Alike (t : Table) (tree : Arrays) (s : Table) (other : Arrays) : Type 0 where
+pub record SameEnd (t : Table) (tree : Arrays) (s : Table) (other : Arrays) : Type 0 where
   pub table : t ≡ s
   pub costs : t .costs ≡ s .costs
   pub distances : tree .dist ≡ other .dist
@@ -73,7 +73,8 @@ pub record Alike (t : Table) (tree : Arrays) (s : Table) (other : Arrays) : Type
   pub only-reached : (v : ℕ) → Reached (netOf s) (rowsOf other) v → Reached (netOf t) (rowsOf tree) v
   pub parents : (v : ℕ) → rowsOf tree .parent v ≢ rowsOf other .parent v → TwoTight (netOf t) (rowsOf tree) v
 
--- the claim that an entry of a node is alike too: proofs/Pier.antt refutes it of parents and of first links
-pub record AlwaysAlike (entry : Arrays → ℕ → ℕ) : Type 0 where
-  pub alike : {t s z : Table} {old tree other : Arrays} {one two : List Change} → Whole old → Acceptable t old one → Acceptable t old two → NoCommonLink one two
+-- the claim that an entry of a node is the same in either order: it is so of distances, and proofs/Pier.antt refutes it of
+-- parents and of first links
+pub record AlwaysSame (entry : Arrays → ℕ → ℕ) : Type 0 where
+  pub same : {t s z : Table} {old tree other : Arrays} {one two : List Change} → Whole old → Acceptable t old one → Acceptable t old two → NoCommonLink one two
       → Arrive t old (one ∷ two ∷ []) s tree → Arrive t old (two ∷ one ∷ []) z other → (v : ℕ) → entry tree v ≡ entry other v

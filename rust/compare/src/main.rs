@@ -1,6 +1,7 @@
 // Compares the product, row by row, with an independent calculation: the crate `reckon` works out each answer from nothing,
 // by the scope's words alone. What is compared: the number and value answered, the whole tree, the cost column, the lent list
-// with the places that must stay, the memory beside them, and the count.
+// with the places that must stay, the memory beside them, and the count. Batches without a common link are given to it in
+// several orders and as one, and what they leave is compared (`swapped`).
 //
 // It does the same for the program `routes`, stream by stream.
 //

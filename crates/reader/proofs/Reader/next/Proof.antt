@@ -14,7 +14,7 @@ use Rattle.walk.proofs.Kit.LL
 use Rattle.walk.proofs.Called.{calls-told}
 use Rattle.walk.proofs.Walk.{code-tables, calls, closes}
 use Rattle.stream.specs.declared.Read.{Read}
-use Rattle.stream.specs.Records.{Gives}
+use Rattle.stream.specs.Records.{GivenAt}
 use Rattle.stream.proofs.Item as S
 use Rattle.stream.proofs.Item.Laws as S′
 use Rattle.stream.proofs.Read as R
@@ -107,7 +107,7 @@ module _ {M : Type 1} (𝓤 : URA M) (H : Heap 𝓤) (A : Atoms 𝓤) (W : Given
       move ! (1 ∷ []) $ drop ! $ nothing ! $ owned ! usize (Is usize) (uint-makes 𝓤 H A W w64) (d .place) _ (refl, fits) $ fjoin ! $ move ! (1 ∷ 0 ∷ []) $ fjoin ! $
       move ! (2 ∷ 0 ∷ []) $ use2 W (raw (ReadAt 𝓤 H A mem run .pre to)) asked $ frame ! $ done !)
 
-  exits : (r : Read) → r .next < 2 ^ 64 → Is S.the-row (r .item) (S′.lowered (r .item) ∷ []) → Gives (d .stream .now) (d .place) r → ent 𝓤 (⋆ 𝓤 H A ((‵ (flft κ q) ⊛ ‵ ftrue) ∷ ‵ Own ∷ [])) (Post (P′.lowered (made r)))
+  exits : (r : Read) → r .next < 2 ^ 64 → Is S.the-row (r .item) (S′.lowered (r .item) ∷ []) → GivenAt (d .stream .now) (d .place) r → ent 𝓤 (⋆ 𝓤 H A ((‵ (flft κ q) ⊛ ‵ ftrue) ∷ ‵ Own ∷ [])) (Post (P′.lowered (made r)))
   exits r fits is e =
       qed W ((‵ (flft κ q) ⊛ ‵ ftrue) ∷ ‵ Own ∷ []) ∵
       suffices ! _ (ends-at 𝓤 H A next.ended stayed (next.clauses 𝓤 H A mem run) W (((κ, tt), (q, tt), tt, (d, tt), (mach ∷ [], tt)), tt) (P′.lowered (made r)) (made r) (tt, tt) (tt, tt)) $
@@ -128,7 +128,7 @@ module _ {M : Type 1} (𝓤 : URA M) (H : Heap 𝓤) (A : Atoms 𝓤) (W : Given
         assigns ! (of-opd ! (load ! (from ! (fld ! refl (stop !))) (look-in ! 10 (sub ! 1 refl (whole !))))) (from ! (stop !)) (init ! 4 refl (tt, wt .1 .1 .0)) $
         move ! (14 ∷ []) $ use1 W (raw (ReadAt 𝓤 H A mem run .pre to) ⊛ ‵ Own) (apart (wt .1 .1 .0 .fits)) $ split ! $
         -- [what `read_at` asks; what the reader owns; _6; …; _0; …]
-        calls-told ! (fmOf 𝓤 H (W .laws) 𝓣) read-at.ended (read-at.clauses 𝓤 H A mem run) known to (‵ (flft κ q) ⊛ ‵ ftrue) (id⊢ 𝓤 _) (λ r. Gives (d .stream .now) (d .place) r) (λ r e. id⊢ 𝓤 _)
+        calls-told ! (fmOf 𝓤 H (W .laws) 𝓣) read-at.ended (read-at.clauses 𝓤 H A mem run) known to (‵ (flft κ q) ⊛ ‵ ftrue) (id⊢ 𝓤 _) (λ r. GivenAt (d .stream .now) (d .place) r) (λ r e. id⊢ 𝓤 _)
         (and-then ! (load ! (from ! (stop !)) (look ! 8 refl)) (and-then ! (load ! (from ! (stop !)) (look ! 6 refl)) (no-more !))) (λ u r e.
         -- [what the callee handed back owns; the token; what the reader owns; _6; …; _0; …]
         peeks ! R.the-row (Is R.the-row) (shows 𝓤 H A R.the-row) r (u ∷ []) (λ is.

@@ -3,7 +3,7 @@ use mathlib.Core.Path.{_≡_, refl, sym, subst, ap, _∙_}
 use mathlib.Core.Logic.{_≢_}
 use mathlib.Core.List.{List, [], _∷_, _++_}
 use Prim.Native.Nat.{ℕ, _+_, _≤_}
-use lib.ListN.{length}
+use lib.ListN.{length, getD}
 use lib.Seq.{ext-getD}
 use Rattle.rules.specs.Columns.{Table, Arrays, Whole, netOf, rowsOf, applied, mostRows, unreached}
 use Rattle.rules.specs.Refusals.{Verdict, accepted, judgeTree}
@@ -14,13 +14,13 @@ use Rattle.rules.proofs.Unique.{same-dist, same-tight, Kinds, roots, hungs, bar
 use Rattle.rules.proofs.Judged.{legal, tree-accepted}
 use Rattle.rules.proofs.Accepted.{Good, update-good}
 use Rattle.demands.proofs.Demands.{stands-good, stands-accepted}
-use Rattle.swapped.specs.Swapped.{withCosts, Arrive, Acceptable, NoCommonLink, Each, NoneCommon, Reordered, TwoTight, Alike}
+use Rattle.swapped.specs.Swapped.{withCosts, Arrive, Acceptable, NoCommonLink, Each, NoneCommon, Reordered, TwoTight, SameEnd, AlwaysSame}
 use Rattle.swapped.proofs.Costs.{as-one, allApplied, each-reordered, any-way}
 use Rattle.swapped.proofs.Acceptable.{batch-tree, taken, still-acceptable, acceptable-as-one}
 
 -- two trees that fit one table
 module _ {t : Table} {tree other : Arrays} (g : Good t tree) (h : Good t other) where
-  one-table : Alike t tree t other
+  one-table : SameEnd t tree t other
   one-table = record {
     table = refl;
     costs = refl;
@@ -45,8 +45,8 @@ module _ {t : Table} {tree other : Arrays} (g : Good t tree) (h : Good t other) 
       at v n (bares a b) = absurd (n (a .no-parent ∙ sym (b .no-parent)))
 
 -- and so of two tables that are one
-same-table : {t s : Table} {tree other : Arrays} → t ≡ s → Good t tree → Good s other → Alike t tree s other
-same-table {t} {s} {tree} {other} e g h = subst (λ (z : Table). Good z other → Alike t tree z other) e (λ k. one-table g k) h
+same-table : {t s : Table} {tree other : Arrays} → t ≡ s → Good t tree → Good s other → SameEnd t tree s other
+same-table {t} {s} {tree} {other} e g h = subst (λ (z : Table). Good z other → SameEnd t tree z other) e (λ k. one-table g k) h
 
 -- ---- what acceptable batches leave
 
@@ -76,7 +76,7 @@ good-from {t} {old} w e = let fine = tree-accepted t old w e in record { table =
 
 pub any-order : {t s z : Table} {old tree other : Arrays} {batches others : List (List Change)} → Whole old → judgeTree t old ≡ accepted
     → Each (Acceptable t old) batches → NoneCommon batches → Reordered batches others → Arrive t old batches s tree → Arrive t old others z other
-    → Alike s tree z other
+    → SameEnd s tree z other
 any-order {t} w e a n r x y =
     let one = arrived (good-from w e) a x in
     let two = arrived (good-from w e) (each-reordered r a) y in
@@ -85,7 +85,7 @@ any-order {t} w e a n r x y =
 -- from what stands after a fresh build and any sequence of accepted batches
 pub any-order-later : {t s z : Table} {old tree other : Arrays} {batches others : List (List Change)} → Stands t old
     → Each (Acceptable t old) batches → NoneCommon batches → Reordered batches others → Arrive t old batches s tree → Arrive t old others z other
-    → Alike s tree z other
+    → SameEnd s tree z other
 any-order-later h = any-order (stands-good h .whole) (stands-accepted h)
 
 -- ---- two batches
@@ -95,13 +95,17 @@ both t old a b = Each.more a (Each.more b Each.none)
 
 module _ {t s z : Table} {old tree other : Arrays} {one two : List Change} (w : Whole old) (a : Acceptable t old one) (b : Acceptable t old two) (n : NoCommonLink one two) where
   -- the other way round
-  pub either-order : Arrive t old (one ∷ two ∷ []) s tree → Arrive t old (two ∷ one ∷ []) z other → Alike s tree z other
+  pub either-order : Arrive t old (one ∷ two ∷ []) s tree → Arrive t old (two ∷ one ∷ []) z other → SameEnd s tree z other
   either-order = any-order w (batch-tree t old one a) (both t old a b) (NoneCommon.more (Each.more n Each.none) (NoneCommon.more Each.none NoneCommon.none)) Reordered.swap
 
   -- as one batch
-  pub one-batch : length one + length two ≤ mostRows → Arrive t old (one ∷ two ∷ []) s tree → Arrive t old ((one ++ two) ∷ []) z other → Alike s tree z other
+  pub one-batch : length one + length two ≤ mostRows → Arrive t old (one ∷ two ∷ []) s tree → Arrive t old ((one ++ two) ∷ []) z other → SameEnd s tree z other
   unfolding allApplied
   one-batch l x y =
       let apart = arrived (good-from w (batch-tree t old one a)) (both t old a b) x in
       let joint = arrived (good-from w (batch-tree t old one a)) (Each.more (acceptable-as-one t old one two a b n l) Each.none) y in
       same-table (apart .table ∙ ap (withCosts t) (sym (as-one one two (t .costs))) ∙ sym (joint .table)) (apart .good) (joint .good)
+
+-- in either order a node's distance is the same
+pub distances-same : AlwaysSame (λ tree. rowsOf tree .dist)
+distances-same = record { same = λ w a b n x y v. ap (λ (d : List ℕ). getD d v unreached) (either-order w a b n x y .distances) }
