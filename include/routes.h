@@ -9,15 +9,15 @@
  *     pointer must be valid for that length; for length 0 it isn't read through, but it still must not be null, and it
  *     must be aligned.
  *   - dist, parent and first point at ROUTES_NODES entries each, whatever the node count.
- *   - count and value point at one entry each. They are written by every call, refused or not, and never read.
+ *   - count points at one entry and values at two. They are written by every call, refused or not, and never read.
  *   - What a call writes (the parameters that aren't const) must share no memory with anything else that it is lent.
  *     What it only reads may be shared.
  *
  * Numbers. Any numbers may stand in the memory: every function judges its whole input before it writes.
  *
- * Answers. A function hands back 0 for acceptance, or the refusal's number, the smallest that applies. *value is the
- * link, node or row that the refusal carries, and 0 where it carries none or nothing is refused. Where there is a count,
- * it is 0 with a refusal.
+ * Answers. A function hands back 0 for acceptance, or the refusal's number, the smallest that applies. values[0] is the
+ * link, node or row that the refusal carries, and 0 where it carries none or nothing is refused. values[1] is the earlier
+ * row that refusal 9 carries too, and 0 with every other. Where there is a count, it is 0 with a refusal.
  */
 #ifndef ROUTES_H
 #define ROUTES_H
@@ -45,7 +45,7 @@ enum routes_answer {
     ROUTES_TREE_UNFIT = 6,            /* the tree doesn't fit; value: smallest node that breaks a rule */
     ROUTES_TOO_MANY_ROWS = 7,         /* over 256 rows */
     ROUTES_ROW_NAMES_NO_LINK = 8,     /* a row names no link of the table; value: that row */
-    ROUTES_ROW_NAMES_LINK_AGAIN = 9,  /* a row names a link of an earlier row; value: that row */
+    ROUTES_ROW_NAMES_LINK_AGAIN = 9,  /* a row names a link of an earlier row; values: that row, and the earliest with the same link */
     ROUTES_ASKED_NO_NODE = 10,        /* asked node not below the node count */
     ROUTES_ASKED_UNREACHED = 11,      /* asked node is unreached */
     ROUTES_LIST_TOO_SHORT = 12,       /* list under the node count (update) or under the path's length (path) */
@@ -53,7 +53,7 @@ enum routes_answer {
     ROUTES_CUT_SHORT = 22             /* the stream ends within the record's body (read) */
 };
 
-/* The kinds of records, each with the numbers of its body, 16 bits each. */
+/* The kinds of records, each with the numbers of its body. A number has 16 bits in the stream, and is handed out in 32. */
 enum routes_kind {
     ROUTES_END = 0,     /* no record */
     ROUTES_NETWORK = 1, /* node count, root */
@@ -67,22 +67,22 @@ enum routes_kind {
  * start, its end and its cost, a column each. A link's number is its place. Starts never fall; a cost of 0 means that the
  * link is down. */
 
-/* Judges a table of links: refusals 1 to 5. Writes *value alone. */
+/* Judges a table of links: refusals 1 to 5. Writes the values alone. */
 uint16_t routes_judge_links(
     size_t nodes, size_t root,
     const uint16_t *starts, size_t starts_len,
     const uint16_t *ends, size_t ends_len,
     const uint16_t *costs, size_t costs_len,
-    uint16_t *value);
+    uint16_t values[2]);
 
-/* Judges whether a tree fits the table: refusals 1 to 6. Writes *value alone. */
+/* Judges whether a tree fits the table: refusals 1 to 6. Writes the values alone. */
 uint16_t routes_judge_tree(
     size_t nodes, size_t root,
     const uint16_t *starts, size_t starts_len,
     const uint16_t *ends, size_t ends_len,
     const uint16_t *costs, size_t costs_len,
     const uint32_t *dist, const uint16_t *parent, const uint16_t *first,
-    uint16_t *value);
+    uint16_t values[2]);
 
 /* Fresh build: refusals 1 to 5. Writes all 256 entries of dist, parent and first, which need not have been set: the
  * fresh tree, or with a refusal the empty one, every node unreached and no links in it. */
@@ -92,7 +92,7 @@ uint16_t routes_build(
     const uint16_t *ends, size_t ends_len,
     const uint16_t *costs, size_t costs_len,
     uint32_t *dist, uint16_t *parent, uint16_t *first,
-    uint16_t *value);
+    uint16_t values[2]);
 
 /* Update: refusals 1 to 9 and 12. The batch stands in two columns, link numbers and new costs; it has a row for each
  * place that both have, so what the longer one has behind them isn't read. An empty batch is accepted: pass length 0 for
@@ -112,7 +112,7 @@ uint16_t routes_update(
     const uint16_t *batch_costs, size_t batch_costs_len,
     uint32_t *dist, uint16_t *parent, uint16_t *first,
     uint16_t *list, size_t list_len,
-    size_t *count, uint16_t *value);
+    size_t *count, uint16_t values[2]);
 
 /* Path: refusals 1 to 6 and 10 to 12.
  *
@@ -128,7 +128,7 @@ uint16_t routes_path(
     const uint32_t *dist, const uint16_t *parent, const uint16_t *first,
     size_t node,
     uint16_t *list, size_t list_len,
-    size_t *count, uint16_t *value);
+    size_t *count, uint16_t values[2]);
 
 /* Reads the record whose kind byte stands at a place of a record stream: refusals 21 and 22. Any place may be given, and
  * any length: this is the reader alone, which judges neither the order of the records nor their numbers.
@@ -140,7 +140,7 @@ uint16_t routes_path(
  * *kind, the three numbers and *next are written by every call, refused or not, and never read. */
 uint16_t routes_read(
     const uint8_t *stream, size_t stream_len, size_t place,
-    uint8_t *kind, uint16_t numbers[3], size_t *next);
+    uint8_t *kind, uint32_t numbers[3], size_t *next);
 
 #ifdef __cplusplus
 }

@@ -62,14 +62,14 @@ def build(nodes, root, starts, ends, costs):
 
 
 def judge_rows(links, batch):
-    named = set()
+    named = {}
     for row, (link, _) in enumerate(batch):
         if link >= links:
-            return 8, row
+            return 8, row, 0
         if link in named:
-            return 9, row
-        named.add(link)
-    return 0, 0
+            return 9, row, named[link]
+        named[link] = row
+    return 0, 0, 0
 
 
 def judge_update(tree, nodes, root, starts, ends, costs, batch, room):
@@ -78,9 +78,9 @@ def judge_update(tree, nodes, root, starts, ends, costs, batch, room):
         return number, value
     if len(batch) > 256:
         return 7, 0
-    number, value = judge_rows(len(starts), batch)
-    if number:
-        return number, value
+    told = judge_rows(len(starts), batch)
+    if told[0]:
+        return told
     return (12, 0) if room < nodes else (0, 0)
 
 
@@ -91,7 +91,7 @@ def with_front(front, lent):
 def update(tree, nodes, root, starts, ends, costs, batch, lent, room):
     """The answer, the count, and the tree, the cost column and the lent list as they stand then."""
     told = judge_update(tree, nodes, root, starts, ends, costs, batch, room)
-    if told != (0, 0):
+    if told[0]:
         return told, 0, tree, costs, lent
     costs = [dict(batch).get(k, cost) for k, cost in enumerate(costs)]
     after = hung(nodes, root, starts, ends, costs, [row[1] for row in tree])
@@ -102,7 +102,7 @@ def update(tree, nodes, root, starts, ends, costs, batch, lent, room):
 def path(tree, nodes, root, starts, ends, costs, node, lent, room):
     """The answer, the count, and the lent list as it stands then."""
     told = judge_tree(nodes, root, starts, ends, costs, tree)
-    if told != (0, 0):
+    if told[0]:
         return told, 0, lent
     if node >= nodes:
         return (10, 0), 0, lent
@@ -146,6 +146,11 @@ def line(name, *parts):
     print(f"{name}:" + " |".join("".join(f" {entry}" for entry in part) for part in parts))
 
 
+def both(told):
+    """The number and both values: only refusal 9 carries a second one."""
+    return (*told, 0)[:3]
+
+
 class Run:
     """One table, the costs and the tree that stand, and the jobs as calls, each of which prints its line."""
 
@@ -157,7 +162,7 @@ class Run:
 
     def fresh(self, name, keep=True):
         told, tree = build(*self.table, self.costs)
-        line(name, told, said_rows(tree) if self.shown is None else folded_rows(tree, self.shown))
+        line(name, both(told), said_rows(tree) if self.shown is None else folded_rows(tree, self.shown))
         if keep:
             self.tree = tree
         return self
@@ -167,9 +172,9 @@ class Run:
         told, count, after, column, told_list = update(
             tree or self.tree, *self.table, self.costs, list(zip(links, costs)), lent, room)
         if self.shown is None:
-            line(name, (*told, count), said_rows(after), column, told_list)
+            line(name, (*both(told), count), said_rows(after), column, told_list)
         else:
-            line(name, (*told, count), folded_rows(after, self.shown), [folded(column)], [folded(told_list)])
+            line(name, (*both(told), count), folded_rows(after, self.shown), [folded(column)], [folded(told_list)])
         self.costs = column
         if keep:
             self.tree = after
@@ -177,12 +182,12 @@ class Run:
 
     def ask(self, name, node, room, tree=None):
         told, count, told_list = path(tree or self.tree, *self.table, self.costs, node, LENT, room)
-        line(name, (*told, count), told_list)
+        line(name, (*both(told), count), told_list)
         return self
 
     def long_ask(self, name, room):
         told, count, told_list = path(self.tree, *self.table, self.costs, 255, LONG_LENT, room)
-        line(name, (*told, count), told_list[254:256], [folded(told_list)])
+        line(name, (*both(told), count), told_list[254:256], [folded(told_list)])
         return self
 
 

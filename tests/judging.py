@@ -53,7 +53,8 @@ def judge_tree(nodes, root, starts, ends, costs, tree):
 
 
 def say(name, told):
-    print(name, *told)
+    # only refusal 9 carries a second value
+    print(name, *told, 0)
 
 
 PIER = ([0, 0, 1, 1, 2, 2, 2, 3], [1, 2, 0, 2, 0, 1, 3, 2], [4, 7, 4, 2, 7, 2, 1, 1])

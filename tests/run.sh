@@ -75,7 +75,7 @@ said="$my:10: change 1 7: this link has a row already, on line 8 (refusal 9)
 call 1 'N 2 6 1 0
 A 1 2
 N 2 9 1 0
-R 9 36
+R 9 36 31
 ' "$said" "$my"
 call 1 '1 batch, 6 rows: none differ
 ' "$said" --check "$my"

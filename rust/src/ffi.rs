@@ -13,40 +13,40 @@ type Place = *mut u16;
 extern "C" {
     fn routes_judge_links(
         nodes: usize, root: usize, starts: Pointer, starts_len: usize, ends: Pointer, ends_len: usize,
-        costs: Pointer, costs_len: usize, value: Place,
+        costs: Pointer, costs_len: usize, values: Place,
     ) -> u16;
     fn routes_judge_tree(
         nodes: usize, root: usize, starts: Pointer, starts_len: usize, ends: Pointer, ends_len: usize,
-        costs: Pointer, costs_len: usize, dist: *const u32, parent: Pointer, first: Pointer, value: Place,
+        costs: Pointer, costs_len: usize, dist: *const u32, parent: Pointer, first: Pointer, values: Place,
     ) -> u16;
     fn routes_build(
         nodes: usize, root: usize, starts: Pointer, starts_len: usize, ends: Pointer, ends_len: usize,
-        costs: Pointer, costs_len: usize, dist: *mut u32, parent: Place, first: Place, value: Place,
+        costs: Pointer, costs_len: usize, dist: *mut u32, parent: Place, first: Place, values: Place,
     ) -> u16;
     fn routes_update(
         nodes: usize, root: usize, starts: Pointer, starts_len: usize, ends: Pointer, ends_len: usize,
         costs: Place, costs_len: usize, batch_links: Pointer, batch_links_len: usize,
         batch_costs: Pointer, batch_costs_len: usize, dist: *mut u32, parent: Place, first: Place,
-        list: Place, list_len: usize, count: *mut usize, value: Place,
+        list: Place, list_len: usize, count: *mut usize, values: Place,
     ) -> u16;
     fn routes_path(
         nodes: usize, root: usize, starts: Pointer, starts_len: usize, ends: Pointer, ends_len: usize,
         costs: Pointer, costs_len: usize, dist: *const u32, parent: Pointer, first: Pointer, node: usize,
-        list: Place, list_len: usize, count: *mut usize, value: Place,
+        list: Place, list_len: usize, count: *mut usize, values: Place,
     ) -> u16;
     fn routes_read(
-        stream: *const u8, stream_len: usize, place: usize, kind: *mut u8, numbers: Place, next: *mut usize,
+        stream: *const u8, stream_len: usize, place: usize, kind: *mut u8, numbers: *mut u32, next: *mut usize,
     ) -> u16;
 }
 
-/// What a call answers, as it comes: a number, 0 for acceptance, the value beside it, and for an update and a path how
+/// What a call answers, as it comes: a number, 0 for acceptance, the two values beside it, and for an update and a path how
 /// many places of the list were written.
 #[derive(Debug, Clone, Copy, PartialEq, Eq)]
 pub struct Reply {
     /// 0, or the refusal's number.
     pub number: u16,
-    /// What the refusal carries.
-    pub value: u16,
+    /// What the refusal carries: a value, and a second one that only 9 has.
+    pub values: [u16; 2],
     /// How many places of the list were written; 0 where there is no list.
     pub count: usize,
 }
@@ -54,12 +54,12 @@ pub struct Reply {
 impl Reply {
     /// The refusal, if the call was refused.
     pub fn refusal(self) -> Result<(), Refusal> {
-        Refusal::told(self.number, self.value).map_or(Ok(()), Err)
+        Refusal::told(self.number, self.values).map_or(Ok(()), Err)
     }
 }
 
 // What stands in the places for the answer before a call, which writes them whatever it answers.
-const UNWRITTEN: Reply = Reply { number: 60_000, value: 60_000, count: 60_000 };
+const UNWRITTEN: Reply = Reply { number: 60_000, values: [60_000; 2], count: 60_000 };
 
 /// A network but for its costs.
 #[derive(Debug, Clone, Copy)]
@@ -109,45 +109,45 @@ pub struct RowsMut<'a> {
 #[inline]
 pub fn judge_links(net: Net, costs: &[u16]) -> Reply {
     let Net { nodes, root, starts, ends } = net;
-    let mut value = UNWRITTEN.value;
+    let mut values = UNWRITTEN.values;
     // SAFETY: every pointer is that of a reference, and its length stands beside it.
     let number = unsafe {
         routes_judge_links(
             nodes, root, starts.as_ptr(), starts.len(), ends.as_ptr(), ends.len(), costs.as_ptr(), costs.len(),
-            &mut value,
+            values.as_mut_ptr(),
         )
     };
-    Reply { number, value, count: 0 }
+    Reply { number, values, count: 0 }
 }
 
 /// Judges a tree: refusals 1 to 6.
 #[inline]
 pub fn judge_tree(net: Net, costs: &[u16], tree: Rows) -> Reply {
     let Net { nodes, root, starts, ends } = net;
-    let mut value = UNWRITTEN.value;
+    let mut values = UNWRITTEN.values;
     // SAFETY: every pointer is that of a reference, its length beside it; a tree's arrays have the 256 entries asked for.
     let number = unsafe {
         routes_judge_tree(
             nodes, root, starts.as_ptr(), starts.len(), ends.as_ptr(), ends.len(), costs.as_ptr(), costs.len(),
-            tree.dist.as_ptr(), tree.parent.as_ptr(), tree.first.as_ptr(), &mut value,
+            tree.dist.as_ptr(), tree.parent.as_ptr(), tree.first.as_ptr(), values.as_mut_ptr(),
         )
     };
-    Reply { number, value, count: 0 }
+    Reply { number, values, count: 0 }
 }
 
 /// Fresh build: refusals 1 to 5. The three arrays are written whatever it answers.
 #[inline]
 pub fn build(net: Net, costs: &[u16], tree: RowsMut) -> Reply {
     let Net { nodes, root, starts, ends } = net;
-    let mut value = UNWRITTEN.value;
+    let mut values = UNWRITTEN.values;
     // SAFETY: as in `judge_tree`; what is written is lent to this call alone.
     let number = unsafe {
         routes_build(
             nodes, root, starts.as_ptr(), starts.len(), ends.as_ptr(), ends.len(), costs.as_ptr(), costs.len(),
-            tree.dist.as_mut_ptr(), tree.parent.as_mut_ptr(), tree.first.as_mut_ptr(), &mut value,
+            tree.dist.as_mut_ptr(), tree.parent.as_mut_ptr(), tree.first.as_mut_ptr(), values.as_mut_ptr(),
         )
     };
-    Reply { number, value, count: 0 }
+    Reply { number, values, count: 0 }
 }
 
 /// Update: refusals 1 to 9 and 12.
@@ -155,33 +155,33 @@ pub fn build(net: Net, costs: &[u16], tree: RowsMut) -> Reply {
 pub fn update(net: Net, costs: &mut [u16], batch: Batch, tree: RowsMut, list: &mut [u16]) -> Reply {
     let Net { nodes, root, starts, ends } = net;
     let Batch { links, costs: newcosts } = batch;
-    let Reply { mut value, mut count, .. } = UNWRITTEN;
+    let Reply { mut values, mut count, .. } = UNWRITTEN;
     // SAFETY: as in `build`; the costs, the tree and the list are lent to this call alone, so none shares memory.
     let number = unsafe {
         routes_update(
             nodes, root, starts.as_ptr(), starts.len(), ends.as_ptr(), ends.len(), costs.as_mut_ptr(), costs.len(),
             links.as_ptr(), links.len(), newcosts.as_ptr(), newcosts.len(),
             tree.dist.as_mut_ptr(), tree.parent.as_mut_ptr(), tree.first.as_mut_ptr(), list.as_mut_ptr(), list.len(),
-            &mut count, &mut value,
+            &mut count, values.as_mut_ptr(),
         )
     };
-    Reply { number, value, count }
+    Reply { number, values, count }
 }
 
 /// Path: refusals 1 to 6 and 10 to 12.
 #[inline]
 pub fn path(net: Net, costs: &[u16], tree: Rows, node: usize, list: &mut [u16]) -> Reply {
     let Net { nodes, root, starts, ends } = net;
-    let Reply { mut value, mut count, .. } = UNWRITTEN;
+    let Reply { mut values, mut count, .. } = UNWRITTEN;
     // SAFETY: as in `judge_tree`; the list is lent to this call alone.
     let number = unsafe {
         routes_path(
             nodes, root, starts.as_ptr(), starts.len(), ends.as_ptr(), ends.len(), costs.as_ptr(), costs.len(),
             tree.dist.as_ptr(), tree.parent.as_ptr(), tree.first.as_ptr(), node, list.as_mut_ptr(), list.len(),
-            &mut count, &mut value,
+            &mut count, values.as_mut_ptr(),
         )
     };
-    Reply { number, value, count }
+    Reply { number, values, count }
 }
 
 /// What the reader hands back, as it comes.
@@ -192,7 +192,7 @@ pub struct Reading {
     /// The record's kind, and 0 at the end and with a refusal.
     pub kind: u8,
     /// The numbers of its body, and 0 in the places behind them.
-    pub numbers: [u16; 3],
+    pub numbers: [u32; 3],
     /// The place behind the record; at the end and with a refusal the same place again.
     pub next: usize,
 }
@@ -200,7 +200,7 @@ pub struct Reading {
 /// Reads the record at a place of a stream: refusals 21 and 22.
 #[inline]
 pub fn read(stream: &[u8], place: usize) -> Reading {
-    let (mut kind, mut numbers, mut next) = (u8::MAX, [UNWRITTEN.value; 3], UNWRITTEN.count);
+    let (mut kind, mut numbers, mut next) = (u8::MAX, [u32::MAX; 3], UNWRITTEN.count);
     // SAFETY: the stream's pointer is that of a reference, its length beside it; `numbers` has the three entries asked for.
     let number = unsafe {
         routes_read(stream.as_ptr(), stream.len(), place, &mut kind, numbers.as_mut_ptr(), &mut next)

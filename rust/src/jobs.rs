@@ -56,7 +56,7 @@ impl Tree {
     /// assert_eq!(tree.parent(1), Some(1));
     ///
     /// let twice = [Change { link: 1, cost: 2 }, Change { link: 1, cost: 3 }];
-    /// assert_eq!(tree.update(&mut net, &twice), Err(Refusal::RowNamesLinkAgain { row: 1 }));
+    /// assert_eq!(tree.update(&mut net, &twice), Err(Refusal::RowNamesLinkAgain { row: 1, earlier: 0 }));
     /// assert_eq!(net.costs, [0, 6]);
     /// # Ok::<(), Refusal>(())
     /// ```

@@ -46,6 +46,8 @@ pub enum Refusal {
     RowNamesLinkAgain {
         /// The first bad row.
         row: u16,
+        /// The earliest row with the same link.
+        earlier: u16,
     },
     /// 10: the asked node isn't below the node count.
     AskedNoNode,
@@ -57,8 +59,8 @@ pub enum Refusal {
     Unnamed {
         /// The number.
         number: u16,
-        /// The value beside it.
-        value: u16,
+        /// The values beside it.
+        values: [u16; 2],
     },
 }
 
@@ -87,22 +89,40 @@ impl Refusal {
         match self {
             Refusal::WrongEnds { link } | Refusal::WrongOrder { link } => link,
             Refusal::TreeUnfit { node } => node,
-            Refusal::RowNamesNoLink { row } | Refusal::RowNamesLinkAgain { row } => row,
-            Refusal::Unnamed { value, .. } => value,
+            Refusal::RowNamesNoLink { row } | Refusal::RowNamesLinkAgain { row, .. } => row,
+            Refusal::Unnamed { values, .. } => values[0],
             _ => 0,
         }
     }
 
-    /// The refusal that a number and the value beside it mean: none for 0, which is acceptance.
+    /// The earlier row that refusal 9 carries beside its own, and 0 with every other.
     ///
     /// ```
     /// use routes::Refusal;
     ///
-    /// assert_eq!(Refusal::told(0, 0), None);
-    /// assert_eq!(Refusal::told(8, 3), Some(Refusal::RowNamesNoLink { row: 3 }));
-    /// assert_eq!(Refusal::told(999, 7).map(|refusal| (refusal.number(), refusal.value())), Some((999, 7)));
+    /// let refusal = Refusal::RowNamesLinkAgain { row: 2, earlier: 0 };
+    /// assert_eq!((refusal.number(), refusal.value(), refusal.second()), (9, 2, 0));
+    /// assert_eq!(refusal.to_string(), "row 2 names the link that row 0 names");
     /// ```
-    pub fn told(number: u16, value: u16) -> Option<Refusal> {
+    pub fn second(self) -> u16 {
+        match self {
+            Refusal::RowNamesLinkAgain { earlier, .. } => earlier,
+            Refusal::Unnamed { values, .. } => values[1],
+            _ => 0,
+        }
+    }
+
+    /// The refusal that a number and the two values beside it mean: none for 0, which is acceptance.
+    ///
+    /// ```
+    /// use routes::Refusal;
+    ///
+    /// assert_eq!(Refusal::told(0, [0, 0]), None);
+    /// assert_eq!(Refusal::told(8, [3, 0]), Some(Refusal::RowNamesNoLink { row: 3 }));
+    /// assert_eq!(Refusal::told(999, [7, 0]).map(|refusal| (refusal.number(), refusal.value())), Some((999, 7)));
+    /// ```
+    pub fn told(number: u16, values: [u16; 2]) -> Option<Refusal> {
+        let [value, second] = values;
         Some(match number {
             0 => return None,
             1 => Refusal::WrongNodeCount,
@@ -113,11 +133,11 @@ impl Refusal {
             6 => Refusal::TreeUnfit { node: value },
             7 => Refusal::TooManyRows,
             8 => Refusal::RowNamesNoLink { row: value },
-            9 => Refusal::RowNamesLinkAgain { row: value },
+            9 => Refusal::RowNamesLinkAgain { row: value, earlier: second },
             10 => Refusal::AskedNoNode,
             11 => Refusal::AskedUnreached,
             12 => Refusal::ListTooShort,
-            _ => Refusal::Unnamed { number, value },
+            _ => Refusal::Unnamed { number, values },
         })
     }
 }
@@ -137,11 +157,15 @@ impl fmt::Display for Refusal {
             }
             Refusal::TooManyRows => write!(f, "the batch has over 256 rows"),
             Refusal::RowNamesNoLink { row } => write!(f, "row {row} names no link of the network"),
-            Refusal::RowNamesLinkAgain { row } => write!(f, "row {row} names a link of an earlier row"),
+            Refusal::RowNamesLinkAgain { row, earlier } => {
+                write!(f, "row {row} names the link that row {earlier} names")
+            }
             Refusal::AskedNoNode => write!(f, "the asked node isn't below the node count"),
             Refusal::AskedUnreached => write!(f, "the asked node is unreached"),
             Refusal::ListTooShort => write!(f, "the lent list is too short"),
-            Refusal::Unnamed { number, value } => write!(f, "refusal {number}, which carries {value}"),
+            Refusal::Unnamed { number, values: [value, second] } => {
+                write!(f, "refusal {number}, which carries {value} and {second}")
+            }
         }
     }
 }

@@ -122,7 +122,8 @@ impl Iterator for Records<'_> {
         }
         let place = self.place;
         let read = ffi::read(self.stream, place);
-        let [a, b, c] = read.numbers;
+        // A record's numbers have 16 bits; the C function hands them out in 32.
+        let [a, b, c] = read.numbers.map(|number| number as u16);
         let record = match (read.number, read.kind) {
             (0, 0) => return None,
             (0, 1) => Ok(Record::Network { nodes: a, root: b }),

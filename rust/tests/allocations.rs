@@ -57,7 +57,7 @@ fn a_batch_of_any_length() {
     let rows: Vec<Change> = (0..100_000).map(|row| Change { link: (row % 255) as u16, cost: 1 }).collect();
     for (count, due) in [
         (255, None),
-        (256, Some(Refusal::RowNamesLinkAgain { row: 255 })),
+        (256, Some(Refusal::RowNamesLinkAgain { row: 255, earlier: 0 })),
         (257, Some(Refusal::TooManyRows)),
         (100_000, Some(Refusal::TooManyRows)),
     ] {

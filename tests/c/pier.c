@@ -18,7 +18,7 @@ static uint32_t dist[ROUTES_NODES];
 static uint16_t parent[ROUTES_NODES], first[ROUTES_NODES];
 static uint16_t list[ROUTES_NODES];
 static size_t count;
-static uint16_t value;
+static uint16_t values[2];
 static int wrong;
 
 static void hold(int right, const char *what) {
@@ -50,7 +50,7 @@ static uint16_t update(size_t n, const uint16_t *links, const uint16_t *prices) 
     for (size_t i = 0; i < ROUTES_NODES; i++)
         list[i] = 7777;
     return routes_update(NODES, 0, starts, LINKS, ends, LINKS, costs, LINKS, links, n, prices, n, dist, parent, first,
-                         list, ROUTES_NODES, &count, &value);
+                         list, ROUTES_NODES, &count, values);
 }
 
 static const uint8_t stream[85] = {
@@ -64,7 +64,7 @@ static const uint8_t stream[85] = {
 /* Reads the stream: its LINKs are the table, and its last byte is no record. */
 static void read_stream(void) {
     uint8_t kind;
-    uint16_t numbers[3];
+    uint32_t numbers[3];
     size_t place = 0, next, records = 0, links = 0, changes = 0;
     while (routes_read(stream, sizeof stream, place, &kind, numbers, &next) == 0 && kind != ROUTES_END) {
         if (kind == ROUTES_LINK && links < LINKS && numbers[0] == starts[links] && numbers[1] == ends[links] &&
@@ -87,10 +87,10 @@ static void read_stream(void) {
 
 int main(void) {
     read_stream();
-    hold(routes_judge_links(NODES, 0, starts, LINKS, ends, LINKS, costs, LINKS, &value) == ROUTES_ACCEPTED,
+    hold(routes_judge_links(NODES, 0, starts, LINKS, ends, LINKS, costs, LINKS, values) == ROUTES_ACCEPTED,
          "the table is accepted");
 
-    hold(routes_build(NODES, 0, starts, LINKS, ends, LINKS, costs, LINKS, dist, parent, first, &value) == 0 && value == 0,
+    hold(routes_build(NODES, 0, starts, LINKS, ends, LINKS, costs, LINKS, dist, parent, first, values) == 0 && values[0] == 0 && values[1] == 0,
          "P1 is accepted");
     hold(rows((uint32_t[]){0, 4, 6, 7}, (uint16_t[]){NO, 0, 3, 6}, (uint16_t[]){NO, 0, 0, 0}), "P1's rows");
 
@@ -105,18 +105,18 @@ int main(void) {
     hold(update(1, (uint16_t[]){3}, (uint16_t[]){6}) == 0, "P4 is accepted");
     hold(rows((uint32_t[]){0, 2, 7, 8}, (uint16_t[]){NO, 0, 1, 6}, (uint16_t[]){NO, 0, 1, 1}), "P4's rows");
     hold(listed(2, (uint16_t[]){2, 3}), "P4's list");
-    hold(routes_judge_tree(NODES, 0, starts, LINKS, ends, LINKS, costs, LINKS, dist, parent, first, &value) == 0,
+    hold(routes_judge_tree(NODES, 0, starts, LINKS, ends, LINKS, costs, LINKS, dist, parent, first, values) == 0,
          "P4's tree fits");
 
     for (size_t i = 0; i < ROUTES_NODES; i++)
         list[i] = 7777;
     hold(routes_path(NODES, 0, starts, LINKS, ends, LINKS, costs, LINKS, dist, parent, first, 3, list, ROUTES_NODES,
-                     &count, &value) == 0 && listed(2, (uint16_t[]){1, 6}), "the path to node 3");
+                     &count, values) == 0 && listed(2, (uint16_t[]){1, 6}), "the path to node 3");
 
     uint16_t before[LINKS];
     memcpy(before, costs, sizeof costs);
-    hold(update(3, (uint16_t[]){3, 0, 3}, (uint16_t[]){1, 1, 1}) == ROUTES_ROW_NAMES_LINK_AGAIN && value == 2,
-         "rows for links 3, 0, 3: refusal 9, row 2");
+    hold(update(3, (uint16_t[]){3, 0, 3}, (uint16_t[]){1, 1, 1}) == ROUTES_ROW_NAMES_LINK_AGAIN && values[0] == 2 && values[1] == 0,
+         "rows for links 3, 0, 3: refusal 9, row 2, earlier row 0");
     hold(listed(0, list) && memcmp(before, costs, sizeof costs) == 0, "which leaves the list and the costs");
     hold(rows((uint32_t[]){0, 2, 7, 8}, (uint16_t[]){NO, 0, 1, 6}, (uint16_t[]){NO, 0, 1, 1}), "and the tree");
 

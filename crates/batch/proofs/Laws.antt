@@ -15,7 +15,7 @@ use borrow.Author.Count.{below-none, below-more}
 use borrow.Author.Tests.{lt-ltb, le-ltb, le-leb, lt-leb, eq-eqb, ne-eqb}
 use Rattle.rules.specs.Tests.{firstBelow}
 use Rattle.rules.specs.Columns.{Table, applied, mostRows}
-use Rattle.rules.specs.Refusals.{linkAt, namesNoLink, namesAgain, firstBadRow, judgeRows}
+use Rattle.rules.specs.Refusals.{earliest, linkAt, namesNoLink, namesAgain, firstBadRow, judgeRows}
 use Rattle.rules.specs.declared.Change.{Change}
 use Rattle.rules.specs.declared.Answer.the-variants.{Accepted, TooManyRows, RowNamesNoLink, RowNamesLinkAgain}
 use Rattle.rules.proofs.Logic.{First, first-is, or-false}
@@ -107,9 +107,8 @@ module _ {links : ℕ} {changed newcosts ends before : List ℕ} {i : ℕ} (p : 
       is-here : leb links (linkAt batch i) ≡ false
       is-here = rw (row-at changed newcosts i row .link) (lt-leb links (getD changed i 0) is-link)
 
-      again : namesAgain batch i ≡ ltb r i
-      unfolding namesAgain
-      again = ap (λ (f : ℕ). ltb f i) (first-is first)
+      same-row : earliest batch i ≡ r
+      same-row = first-is first
         where
           names : ℕ → Bool
           names earlier = eqb (linkAt batch earlier) (linkAt batch i)
@@ -124,10 +123,14 @@ module _ {links : ℕ} {changed newcosts ends before : List ℕ} {i : ℕ} (p : 
             passes = λ l. rw (link-of r (omega arith), link-of i (omega arith)) (eq-eqb _ _ (e .names l));
           }
 
-      pub named-again : r < i → RowsJudged links batch (RowNamesLinkAgain i)
+      again : namesAgain batch i ≡ ltb r i
+      unfolding namesAgain
+      again = ap (λ (f : ℕ). ltb f i) same-row
+
+      pub named-again : r < i → RowsJudged links batch (RowNamesLinkAgain i r)
       unfolding judgeRows namesNoLink bad
       named-again l =
-          record { verdict = λ t q. rw (first-bad (λ m. rw (is-here, again, lt-ltb r i l)) t q, lt-ltb i (length batch) row, q, is-here) }
+          record { verdict = λ t q. rw (first-bad (λ m. rw (is-here, again, lt-ltb r i l)) t q, lt-ltb i (length batch) row, q, is-here, same-row) }
 
       pub passed-more : i ≤ r → {ends' before' : List ℕ} → Threaded changed ends' before' (i + 1) → Passed links changed newcosts ends' before' (i + 1)
       unfolding bad

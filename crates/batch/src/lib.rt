@@ -33,8 +33,9 @@ fn judge_rows(links: usize, changed: &[u16], newcosts: &[u16]) -> Answer
         if links <= link as usize {
             return Answer::RowNamesNoLink(i as u16);
         }
-        if threads::earliest_row(changed, &ends, &before, i, link) < i {
-            return Answer::RowNamesLinkAgain(i as u16);
+        let earlier = threads::earliest_row(changed, &ends, &before, i, link);
+        if earlier < i {
+            return Answer::RowNamesLinkAgain(i as u16, earlier as u16);
         }
         threads::add_row(changed, &mut ends, &mut before, i);
         i = next;

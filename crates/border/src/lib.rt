@@ -1,5 +1,5 @@
 // The jobs for programs in other languages. A tree is lent as its three arrays of 256; the answer's number is handed
-// back, 0 for acceptance, and the value that it carries is written beside it.
+// back, 0 for acceptance, and the two values that it carries are written beside it.
 ghost use mathlib.Core.Path.{_≡_};
 ghost use Rattle.rules.specs.Refusals.{judgeLinks, judgeTree};
 ghost use Rattle.rules.specs.Jobs.{Built, Updated, Pathed};
@@ -16,11 +16,11 @@ pub extern "C" fn routes_judge_links(
     starts: &[u16],
     ends: &[u16],
     costs: &[u16],
-    value: &mut u16,
+    values: &mut [u16; 2],
 ) -> u16
-    ensures { λ r. ⌜ InNumbers (λ v. v ≡ judgeLinks (lentTable nodes root starts ends costs)) r (left value) ⌝ }
+    ensures { λ r. ⌜ InNumbers (λ v. v ≡ judgeLinks (lentTable nodes root starts ends costs)) r (left values) ⌝ }
 {
-    plain::tell(links::judge_links(nodes, root, starts, ends, costs), value)
+    plain::tell(links::judge_links(nodes, root, starts, ends, costs), values)
 }
 
 #[no_mangle]
@@ -33,13 +33,13 @@ pub extern "C" fn routes_judge_tree<'a>(
     dist: &'a [u32; 256],
     parent: &'a [u16; 256],
     first: &'a [u16; 256],
-    value: &mut u16,
+    values: &mut [u16; 2],
 ) -> u16
-    ensures { λ r. ⌜ InNumbers (λ v. v ≡ judgeTree (lentTable nodes root starts ends costs) (lentTree dist parent first)) r (left value) ⌝ }
+    ensures { λ r. ⌜ InNumbers (λ v. v ≡ judgeTree (lentTable nodes root starts ends costs) (lentTree dist parent first)) r (left values) ⌝ }
 {
     plain::tell(
         fit::judge_rows(nodes, root, starts, ends, costs, dist, parent, first),
-        value,
+        values,
     )
 }
 
@@ -53,13 +53,13 @@ pub extern "C" fn routes_build(
     dist: &mut [u32; 256],
     parent: &mut [u16; 256],
     first: &mut [u16; 256],
-    value: &mut u16,
+    values: &mut [u16; 2],
 ) -> u16
-    ensures { λ r. ⌜ InNumbers (λ v. Built (lentTable nodes root starts ends costs) v (leftTree dist parent first)) r (left value) ⌝ }
+    ensures { λ r. ⌜ InNumbers (λ v. Built (lentTable nodes root starts ends costs) v (leftTree dist parent first)) r (left values) ⌝ }
 {
     plain::tell(
         build::build(nodes, root, starts, ends, costs, dist, parent, first),
-        value,
+        values,
     )
 }
 
@@ -77,9 +77,9 @@ pub extern "C" fn routes_update(
     first: &mut [u16; 256],
     list: &mut [u16],
     count: &mut usize,
-    value: &mut u16,
+    values: &mut [u16; 2],
 ) -> u16
-    ensures { λ r. ⌜ InNumbers (λ v. Updated (lentTable nodes root starts ends costs) (lentTree dist parent first) (rowsOfColumns (lent changed) (lent newcosts)) (lent list) v (leftTree dist parent first) (left costs) (left list) (left count)) r (left value) ⌝ }
+    ensures { λ r. ⌜ InNumbers (λ v. Updated (lentTable nodes root starts ends costs) (lentTree dist parent first) (rowsOfColumns (lent changed) (lent newcosts)) (lent list) v (leftTree dist parent first) (left costs) (left list) (left count)) r (left values) ⌝ }
 {
     plain::tell(
         update::update(
@@ -96,7 +96,7 @@ pub extern "C" fn routes_update(
             list,
             count,
         ),
-        value,
+        values,
     )
 }
 
@@ -113,9 +113,9 @@ pub extern "C" fn routes_path<'a>(
     node: usize,
     list: &mut [u16],
     count: &mut usize,
-    value: &mut u16,
+    values: &mut [u16; 2],
 ) -> u16
-    ensures { λ r. ⌜ InNumbers (λ v. Pathed (lentTable nodes root starts ends costs) (lentTree dist parent first) node (lent list) v (left list) (left count)) r (left value) ⌝ }
+    ensures { λ r. ⌜ InNumbers (λ v. Pathed (lentTable nodes root starts ends costs) (lentTree dist parent first) node (lent list) v (left list) (left count)) r (left values) ⌝ }
 {
     plain::tell(
         route::path(
@@ -131,7 +131,7 @@ pub extern "C" fn routes_path<'a>(
             list,
             count,
         ),
-        value,
+        values,
     )
 }
 
@@ -140,7 +140,7 @@ pub extern "C" fn routes_read(
     bytes: &[u8],
     place: usize,
     kind: &mut u8,
-    numbers: &mut [u16; 3],
+    numbers: &mut [u32; 3],
     next: &mut usize,
 ) -> u16
     ensures { λ r. ⌜ HandedBack (readAt (lent bytes) place) r (left kind) (left numbers) (left next) ⌝ }

@@ -16,7 +16,7 @@ module _ (t : Table) (v : Verdict) (is : v ≡ judgeLinks t) where
     where
       at : (v : Verdict) → v ≡ judgeLinks t → (v ≡ accepted → ⊥) → Built t v emptyTree
       at accepted is n = absurd (n refl)
-      at (refused number value) is n = not-built (sym is)
+      at (refused number values) is n = not-built (sym is)
 
   pub build-proper : v ≡ accepted → Proper t
   build-proper a = links-proper t (sym is ∙ a)

@@ -5,7 +5,7 @@ use mathlib.Core.Path.{_≡_, refl, sym}
 use mathlib.Core.List.{List}
 use Prim.Native.Nat.{ℕ}
 use Rattle.rules.specs.Columns.{Table, Arrays, emptyTree}
-use Rattle.rules.specs.Refusals.{Verdict, refused}
+use Rattle.rules.specs.Refusals.{Values, Verdict, refused}
 use Rattle.rules.specs.Applies.{OfTable, OfUpdate, OfPath, Gives}
 use Rattle.rules.specs.Jobs.{Built, built, not-built, Updated, updated, not-updated, Pathed, pathed, too-short, not-pathed}
 use Rattle.rules.specs.Demands.{Untouched}
@@ -19,7 +19,7 @@ pub built-gives : {t : Table} {v : Verdict} {tree : Arrays} → Built t v tree �
 built-gives {t} (built e w f) = rw e at (table-gives t)
 built-gives {t} (not-built e) = rw e at (table-gives t)
 
-pub demand-1-build : {t : Table} {v : Verdict} {tree : Arrays} {number value : ℕ} → Built t v tree → v ≡ refused number value → tree ≡ emptyTree
+pub demand-1-build : {t : Table} {v : Verdict} {tree : Arrays} {number : ℕ} {values : Values} → Built t v tree → v ≡ refused number values → tree ≡ emptyTree
 demand-1-build (built e w f) q = absurd (not-refused (sym q))
 demand-1-build (not-built e) q = refl
 
@@ -30,8 +30,8 @@ pub updated-gives : {t : Table} {old new : Arrays} {batch : List Change} {list c
 updated-gives {t} {old} {batch = batch} {list = list} (updated changed e w m c) = rw e at (update-gives t old batch list)
 updated-gives {t} {old} {batch = batch} {list = list} (not-updated e) = rw e at (update-gives t old batch list)
 
-pub demand-1-update : {t : Table} {old new : Arrays} {batch : List Change} {list costs listed : List ℕ} {count : ℕ} {v : Verdict} {number value : ℕ}
-    → Updated t old batch list v new costs listed count → v ≡ refused number value → Untouched t old list new costs listed count
+pub demand-1-update : {t : Table} {old new : Arrays} {batch : List Change} {list costs listed : List ℕ} {count : ℕ} {v : Verdict} {number : ℕ} {values : Values}
+    → Updated t old batch list v new costs listed count → v ≡ refused number values → Untouched t old list new costs listed count
 demand-1-update (updated changed e w m c) q = absurd (not-refused (sym q))
 demand-1-update (not-updated e) q = record { tree-stays = refl; costs-stay = refl; list-stays = refl; count-zero = refl }
 
@@ -41,8 +41,8 @@ pub pathed-gives : {t : Table} {tree : Arrays} {node : ℕ} {list listed : List 
     → Gives (OfPath t tree node list) v
 pathed-gives {t} {tree} {node} {list} p = path-gives t tree node list p
 
-pub demand-1-path : {t : Table} {tree : Arrays} {node : ℕ} {list listed : List ℕ} {count : ℕ} {v : Verdict} {number value : ℕ}
-    → Pathed t tree node list v listed count → v ≡ refused number value → (listed ≡ list) × (count ≡ 0)
+pub demand-1-path : {t : Table} {tree : Arrays} {node : ℕ} {list listed : List ℕ} {count : ℕ} {v : Verdict} {number : ℕ} {values : Values}
+    → Pathed t tree node list v listed count → v ≡ refused number values → (listed ≡ list) × (count ≡ 0)
 demand-1-path (pathed e p l) q = absurd (not-refused (sym q))
 demand-1-path (too-short e p l) q = (refl, refl)
 demand-1-path (not-pathed e) q = (refl, refl)

@@ -8,7 +8,7 @@ use borrow.Author.Tests.{ltb-false, lt-ltb, le-ltb}
 use lib.Dec.{ltb}
 use lib.ListN.{length, getD}
 use Rattle.rules.specs.Columns.{Table}
-use Rattle.rules.specs.Refusals.{accepted, refused, wrongEndsAt, wrongOrderAt, judgeEach}
+use Rattle.rules.specs.Refusals.{only, accepted, refused, wrongEndsAt, wrongOrderAt, judgeEach}
 use Rattle.rules.proofs.Search.{Seen, seen-none, seen-more, seen-here, one-seen, none-seen}
 
 -- ---- the pass
@@ -50,12 +50,12 @@ module _ {t : Table} {fall previous i : ℕ} (p : Passed t fall previous i) (l :
   falls-not-here (inl m) = seen-more (p .first-fall) (λ k. sym (p .falls) ∙ le-ltb (getD (t .starts) i 0) previous m)
   falls-not-here (inr some) = seen-more (p .first-fall) (λ k. absurd (omega (arith, p .first-fall .found (omega arith))))
 
-  pub ends-decide : wrongEndsAt t i ≡ true → refused 4 i ≡ judgeEach t
+  pub ends-decide : wrongEndsAt t i ≡ true → refused 4 (only i) ≡ judgeEach t
   ends-decide wrong = rw (one-seen (seen-here (p .ends-right) l wrong) 4 l)
 
 -- after the last link
 module _ {t : Table} {fall previous i : ℕ} (p : Passed t fall previous i) (end : length (t .starts) ≤ i) where
-  pub order-decides : fall < length (t .starts) → refused 5 fall ≡ judgeEach t
+  pub order-decides : fall < length (t .starts) → refused 5 (only fall) ≡ judgeEach t
   order-decides l = rw (none-seen (p .ends-right) 4 end (omega arith), one-seen (p .first-fall) 5 l)
 
   pub nothing-decides : length (t .starts) ≤ fall → accepted ≡ judgeEach t

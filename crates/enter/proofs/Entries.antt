@@ -14,7 +14,7 @@ module _ (column : List ℕ) (place x : ℕ) where
     where
       at : (v : Verdict) → (v ≡ accepted → ⊥) → column ≡ entered v column place x
       at accepted n = absurd (n refl)
-      at (refused number value) n = refl
+      at (refused number values) n = refl
 
   pub entered-set : {v : Verdict} → v ≡ accepted → set column place x ≡ entered v column place x
   entered-set e = rw e refl

@@ -11,7 +11,7 @@ use lib.Seq.{getD-append-seam}
 use borrow.Author.Count.{below-more}
 use borrow.Author.Tests.{lt-ltb, le-ltb, eq-eqb, eqb-true}
 use Rattle.rules.specs.Columns.{Table, table, mostLinks}
-use Rattle.rules.specs.Refusals.{Verdict, accepted, refused, _then_, when, whenOne, wrongNodeCount, wrongRoot, wrongColumns, wrongEnds, wrongEndsAt, wrongOrderAt, judgeEach, judgeLinks}
+use Rattle.rules.specs.Refusals.{only, Verdict, accepted, refused, _then_, when, whenOne, wrongNodeCount, wrongRoot, wrongColumns, wrongEnds, wrongEndsAt, wrongOrderAt, judgeEach, judgeLinks}
 use Rattle.rules.specs.declared.Answer.the-variants.{Accepted, WrongColumns, WrongEnds, WrongOrder}
 use Rattle.rules.proofs.Logic.{First, first-is}
 use Rattle.rules.proofs.Judged.{then-first, then-second, when-not, none-of, not-refused, links-proper}
@@ -42,7 +42,7 @@ module _ (t : Table) (fine : judgeLinks t ≡ accepted) where
 -- ---- a search whose last place is the only one that may pass
 
 only-last : (test : ℕ → Bool) (p number : ℕ) (last : Bool) → ((j : ℕ) → j < p → test j ≡ false) → test p ≡ last
-    → whenOne (p + 1) test number ≡ cond last (refused number p) accepted
+    → whenOne (p + 1) test number ≡ cond last (refused number (only p)) accepted
 only-last test p number true before e =
     let here : First test (p + 1) p = record { within = omega arith; before = before; passes = λ l. e } in
     rw (first-is here, lt-ltb p (p + 1) (omega arith)) refl
@@ -98,11 +98,11 @@ module _ (nodes root : ℕ) (starts ends costs : List ℕ) (start end cost : ℕ
           rw (back, last-of starts start refl, List·getD-eq-default starts 0 {n = length starts} (omega arith), le-ltb start start (omega arith), le-ltb start 0 (omega arith)) refl
       at (no n) = rw (last-of starts start refl, List·getD-append starts (start ∷ []) 0 (length starts - 1) (omega arith)) refl
 
-  pub full : mostLinks ≤ length starts → refused 3 0 ≡ judgeLinks more
+  pub full : mostLinks ≤ length starts → refused 3 (only 0) ≡ judgeLinks more
   full l = columns-decide more (count-right so-far fine) (root-right so-far fine) (columns-wrong (lt-ltb mostLinks (length starts + 1) (omega arith)))
 
   module _ (room : length starts < mostLinks) {ends-wrong order-wrong : Bool} (e : wrongEnds nodes start end ≡ ends-wrong) (o : ltb start (getD starts (length starts - 1) 0) ≡ order-wrong) where
-    pub last-decides : cond ends-wrong (refused 4 (length starts)) accepted then cond order-wrong (refused 5 (length starts)) accepted ≡ judgeLinks more
+    pub last-decides : cond ends-wrong (refused 4 (only (length starts))) accepted then cond order-wrong (refused 5 (only (length starts))) accepted ≡ judgeLinks more
     last-decides =
         sym (rw (
           one-longer starts start refl,

@@ -11,7 +11,7 @@ use borrow.Author.Count.{below-more}
 use borrow.Author.Tests.{lt-ltb, le-ltb, ltb-false, le-leb, lt-leb}
 use Rattle.rules.specs.Tests.{firstBelow}
 use Rattle.rules.specs.Columns.{Table, mostRows}
-use Rattle.rules.specs.Refusals.{Verdict, accepted, refused, linkAt, namesNoLink, namesAgain, firstBadRow, judgeRows}
+use Rattle.rules.specs.Refusals.{only, both, earliest, Verdict, accepted, refused, linkAt, namesNoLink, namesAgain, firstBadRow, judgeRows}
 use Rattle.rules.specs.declared.Change.{Change}
 use Rattle.rules.specs.declared.Answer.the-variants.{Accepted, TooManyRows, RowNamesNoLink, RowNamesLinkAgain}
 use Rattle.rules.proofs.Logic.{First, first-of, first-is, or-false}
@@ -72,12 +72,14 @@ module _ (t : Table) (changed newcosts : List ℕ) (link cost : ℕ) (long : len
         names-same row l,
       ) (none-bad t so-far fine row (omega (arith, so-far-long)))
 
+  earliest-last : earliest more (length changed) ≡ firstNaming changed link
+  earliest-last =
+      same-first (λ earlier. eqb (linkAt more earlier) (linkAt more (length changed))) (λ earlier. eqb (getD changed earlier 0) link) (length changed)
+      (λ earlier l. rw (names-before earlier l, names-last) refl)
+
   again-last : namesAgain more (length changed) ≡ ltb (firstNaming changed link) (length changed)
   unfolding namesAgain
-  again-last =
-      ap (λ (first : ℕ). ltb first (length changed))
-      (same-first (λ earlier. eqb (linkAt more earlier) (linkAt more (length changed))) (λ earlier. eqb (getD changed earlier 0) link) (length changed)
-      (λ earlier l. rw (names-before earlier l, names-last) refl))
+  again-last = ap (λ (first : ℕ). ltb first (length changed)) earliest-last
 
   no-link-last : namesNoLink t more (length changed) ≡ leb (length (t .starts)) link
   unfolding namesNoLink
@@ -88,20 +90,20 @@ module _ (t : Table) (changed newcosts : List ℕ) (link cost : ℕ) (long : len
     unfolding bad
     last-bad = rw (no-link-last ∙ n, again-last ∙ a) refl
 
-    pub last-decides : (length changed < mostRows) → cond (no-link || again) (refused (cond no-link 8 9) (length changed)) accepted ≡ judgeWaiting t more
+    pub last-decides : (length changed < mostRows) → cond (no-link || again) (refused (cond no-link 8 9) (both (length changed) (cond no-link 0 (firstNaming changed link)))) accepted ≡ judgeWaiting t more
     unfolding judgeRows bad firstBadRow
     last-decides few = at (no-link || again) refl
       where
-        at : (b : Bool) → (no-link || again) ≡ b → cond b (refused (cond no-link 8 9) (length changed)) accepted ≡ judgeWaiting t more
+        at : (b : Bool) → (no-link || again) ≡ b → cond b (refused (cond no-link 8 9) (both (length changed) (cond no-link 0 (firstNaming changed link)))) accepted ≡ judgeWaiting t more
         at true e =
             let here : First (bad t more) (length changed + 1) (length changed) = record { within = omega arith; before = good-before; passes = λ l. last-bad ∙ e } in
-            rw (more-long, le-ltb mostRows (length changed + 1) (omega arith), first-is here, lt-ltb (length changed) (length changed + 1) (omega arith), no-link-last ∙ n) refl
+            rw (more-long, le-ltb mostRows (length changed + 1) (omega arith), first-is here, lt-ltb (length changed) (length changed + 1) (omega arith), no-link-last ∙ n, earliest-last) refl
         at false e =
             let none : First (bad t more) (length changed + 1) (length changed + 1) =
             record { within = omega arith; before = below-more (λ row. bad t more row ≡ false) (length changed) good-before (last-bad ∙ e); passes = λ l. absurd (omega arith) } in
             rw (more-long, le-ltb mostRows (length changed + 1) (omega arith), first-is none, le-ltb (length changed + 1) (length changed + 1) (omega arith)) refl
 
-  pub full : mostRows ≤ length changed → refused 7 0 ≡ judgeWaiting t more
+  pub full : mostRows ≤ length changed → refused 7 (only 0) ≡ judgeWaiting t more
   full l = rw (more-long, lt-ltb mostRows (length changed + 1) (omega arith)) refl
 
 -- ---- the four answers
@@ -118,7 +120,7 @@ module _ {links : ℕ} {changed : List ℕ} {link : ℕ} where
     }
 
     module _ (is-link : link < links) where
-      pub again : firstNaming changed link < length changed → RowJudged links changed link (RowNamesLinkAgain (length changed))
+      pub again : firstNaming changed link < length changed → RowJudged links changed link (RowNamesLinkAgain (length changed) (firstNaming changed link))
       again l = record {
         verdict = λ t newcosts cost e long fine.
             last-decides t changed newcosts link cost long fine (lt-leb (length (t .starts)) link (omega arith)) (lt-ltb (firstNaming changed link) (length changed) l) room;

@@ -26,7 +26,7 @@ judgeWaiting t rows = when (ltb mostRows (length rows)) 7 then judgeRows t rows
 -- what is accepted is written at its place; a refusal leaves the column as it was
 abbrev pub entered : Verdict → List ℕ → ℕ → ℕ → List ℕ
 entered accepted column place x = set column place x
-entered (refused number value) column place x = column
+entered (refused number values) column place x = column
 
 -- where the links so far are accepted, the answer is that of the table with this link as its last; none is accepted
 -- that the columns have no place for

@@ -86,8 +86,9 @@ fn judge_change(links: usize, changed: &[u16], link: u16) -> Answer
     if links <= link as usize {
         return Answer::RowNamesNoLink(place as u16);
     }
-    if first_naming(changed, link) < place {
-        return Answer::RowNamesLinkAgain(place as u16);
+    let earlier = first_naming(changed, link);
+    if earlier < place {
+        return Answer::RowNamesLinkAgain(place as u16, earlier as u16);
     }
     Answer::Accepted
 }

@@ -10,7 +10,7 @@ use Rattle.rules.specs.Net.{Net}
 use Rattle.rules.specs.Fit.{Rows}
 use Rattle.rules.specs.Tests.{usable, reached, offers, sumBy, breaks}
 use Rattle.rules.specs.Columns.{Table, Arrays, narrow, netIn, rowsIn, mostNodes}
-use Rattle.rules.specs.Refusals.{Verdict, accepted, refused, judgeLinks, judgeTree, judgeTreeIn}
+use Rattle.rules.specs.Refusals.{only, Verdict, accepted, refused, judgeLinks, judgeTree, judgeTreeIn}
 use Rattle.rules.specs.declared.Profile.{Profile}
 use Rattle.rules.proofs.Logic.{First, first-is, and-l, and-r, or-cases, true-T, T-true}
 use Rattle.offends.specs.Offends.{hasMore, offersLess, offends, LeastOffended}
@@ -93,14 +93,14 @@ module _ (N : Net) (r : Rows) where
 
 pub tree-decides : (p : Profile) (t : Table) (tree : Arrays) {v : ℕ} → judgeLinks t ≡ accepted
     → First (breaks (netIn p t) (rowsIn p tree)) mostNodes v
-    → cond (ltb v mostNodes) (refused 6 v) accepted ≡ judgeTreeIn p t tree
+    → cond (ltb v mostNodes) (refused 6 (only v)) accepted ≡ judgeTreeIn p t tree
 tree-decides p t tree right f = rw (right, first-is f)
 
 pub links-decide : (t : Table) (tree : Arrays) (verdict : Verdict) → (verdict ≡ accepted → ⊥)
     → verdict ≡ judgeLinks t → verdict ≡ judgeTree t tree
 unfolding judgeTree
 links-decide t tree accepted refuses is = absurd (refuses refl)
-links-decide t tree (refused number value) refuses is = rw (← is)
+links-decide t tree (refused number values) refuses is = rw (← is)
 
 pub narrow-decides : (p : Profile) (t : Table) (tree : Arrays) (verdict : Verdict) → p ≡ narrow → verdict ≡ judgeTreeIn p t tree
     → verdict ≡ judgeTree t tree

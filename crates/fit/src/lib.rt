@@ -6,7 +6,7 @@ ghost use Prim.Native.Nat.{_≤_, _<_};
 ghost use lib.Dec.{ltb};
 ghost use Rattle.rules.specs.Columns.{arrays, Whole, mostNodes, noCeiling};
 ghost use Rattle.rules.specs.Lent.{lentTable, lentTree};
-ghost use Rattle.rules.specs.Refusals.{accepted, refused, judgeLinks, judgeTree, judgeTreeIn};
+ghost use Rattle.rules.specs.Refusals.{only, accepted, refused, judgeLinks, judgeTree, judgeTreeIn};
 ghost use Rattle.rules.specs.Answers.{told};
 ghost use Rattle.usable.specs.Standing.{givenTable, lentTableAt};
 use rules::Answer;
@@ -16,7 +16,7 @@ const NODES: usize = 256;
 
 // What is answered where `node` is the smallest node that breaks a rule, or 256.
 fn answer(node: usize) -> Answer
-    ensures { λ r. ⌜ told r ≡ cond (ltb node mostNodes) (refused 6 node) accepted ⌝ }
+    ensures { λ r. ⌜ told r ≡ cond (ltb node mostNodes) (refused 6 (only node)) accepted ⌝ }
 {
     if node < NODES {
         return Answer::TreeUnfit(node as u16);

@@ -1,5 +1,5 @@
 // The two forms that are proved by hand, run on cases: `Tree::update` with its lent slice of rows, and the `Reader`, which
-// carries the stream together with its place. A line for each call: of an update the refusal's number, the value that it
+// carries the stream together with its place. A line for each call: of an update the refusal's number, the two values that it
 // carries and the count, the rows of the tree that aren't empty (node:distance,parent,first), the cost column and the lent
 // list; of the reader what it gives, by number, and where it then stands. tests/forms.py works the expected lines out.
 use reader::Reader;
@@ -116,6 +116,7 @@ fn say_rows(t: Tree) {
 fn say_answer(answer: Answer, count: usize) {
     say_number(rules::number(answer) as u64);
     say_number(rules::value(answer) as u64);
+    say_number(rules::second(answer) as u64);
     say_number(count as u64);
 }
 

@@ -9,7 +9,7 @@ use lib.ListN.{length, take}
 use lib.Seq.{take-all, length-take-le}
 use borrow.Author.Tests.{lt-ltb}
 use Rattle.rules.specs.Columns.{Table, Arrays, mostRows}
-use Rattle.rules.specs.Refusals.{Verdict, accepted, refused, _then_, when, judgeTree, judgeBatch, judgeUpdate}
+use Rattle.rules.specs.Refusals.{only, Verdict, accepted, refused, _then_, when, judgeTree, judgeBatch, judgeUpdate}
 use Rattle.rules.specs.Jobs.{Updated, updated, not-updated}
 use Rattle.rules.specs.declared.Change.{Change}
 use Rattle.rules.proofs.Judged.{not-refused}
@@ -19,7 +19,7 @@ use Rattle.gather.specs.Gathering.{mostRead, batchOf, Gathered}
 module _ (t : Table) (old : Arrays) (list : List ℕ) where
   -- the verdict on a batch of too many rows, whatever they are
   abbrev tooMany : Verdict
-  tooMany = (judgeTree t old then refused 7 0) then when (ltb (length list) (t .nodes)) 12
+  tooMany = (judgeTree t old then refused 7 (only 0)) then when (ltb (length list) (t .nodes)) 12
 
   too-many : (batch : List Change) → mostRows < length batch → judgeUpdate t old batch list ≡ tooMany
   unfolding judgeUpdate judgeBatch
@@ -28,9 +28,9 @@ module _ (t : Table) (old : Arrays) (list : List ℕ) where
   never : tooMany ≡ accepted → ⊥
   never = at (judgeTree t old)
     where
-      at : (tree : Verdict) → (tree then refused 7 0) then when (ltb (length list) (t .nodes)) 12 ≡ accepted → ⊥
+      at : (tree : Verdict) → (tree then refused 7 (only 0)) then when (ltb (length list) (t .nodes)) 12 ≡ accepted → ⊥
       at accepted e = not-refused e
-      at (refused number value) e = not-refused e
+      at (refused number values) e = not-refused e
 
 module _ {t : Table} {old : Arrays} {list : List ℕ} (batch : List Change) (most : ℕ) (enough : mostRows < most) where
   -- over so many rows

@@ -8,19 +8,19 @@ use lib.ListN.{length}
 use borrow.Author.Tests.{lt-ltb, le-ltb, le-leb, lt-leb}
 use Rattle.rules.specs.Tests.{reached}
 use Rattle.rules.specs.Columns.{Table, Arrays, rowsOf, unreached}
-use Rattle.rules.specs.Refusals.{Verdict, accepted, refused, when, judgeTree, judgeBatch, judgeUpdate, judgeAsked}
+use Rattle.rules.specs.Refusals.{Values, only, Verdict, accepted, refused, when, judgeTree, judgeBatch, judgeUpdate, judgeAsked}
 use Rattle.rules.specs.declared.Change.{Change}
 
 -- ---- a verdict that is no acceptance
 
 pub record Refusal (v : Verdict) : Type 0 where
   pub number : ℕ
-  pub value : ℕ
-  pub is : v ≡ refused number value
+  pub values : Values
+  pub is : v ≡ refused number values
 
 pub refusal : (v : Verdict) → (v ≡ accepted → ⊥) → Refusal v
 refusal accepted n = absurd (n refl)
-refusal (refused number value) n = record { number = number; value = value; is = refl }
+refusal (refused number values) n = record { number = number; values = values; is = refl }
 
 -- ---- judging an update
 
@@ -29,17 +29,17 @@ module _ (t : Table) (tree : Arrays) (batch : List Change) (list : List ℕ) whe
   unfolding judgeUpdate judgeBatch
   tree-refuses {v} is n =
       let r = refusal v n in
-      let tree : judgeTree t tree ≡ refused (r .number) (r .value) = sym is ∙ r .is in
+      let tree : judgeTree t tree ≡ refused (r .number) (r .values) = sym is ∙ r .is in
       rw tree (r .is)
 
   pub batch-refuses : {v : Verdict} → v ≡ judgeBatch t tree batch → (v ≡ accepted → ⊥) → v ≡ judgeUpdate t tree batch list
   unfolding judgeUpdate
   batch-refuses {v} is n =
       let r = refusal v n in
-      let rows : judgeBatch t tree batch ≡ refused (r .number) (r .value) = sym is ∙ r .is in
+      let rows : judgeBatch t tree batch ≡ refused (r .number) (r .values) = sym is ∙ r .is in
       rw rows (r .is)
 
-  pub list-refuses : judgeBatch t tree batch ≡ accepted → length list < t .nodes → refused 12 0 ≡ judgeUpdate t tree batch list
+  pub list-refuses : judgeBatch t tree batch ≡ accepted → length list < t .nodes → refused 12 (only 0) ≡ judgeUpdate t tree batch list
   unfolding judgeUpdate
   list-refuses e l = rw (e, lt-ltb (length list) (t .nodes) l) refl
 
@@ -54,10 +54,10 @@ module _ (t : Table) (tree : Arrays) (node : ℕ) where
   unfolding judgeAsked
   tree-refuses-asked {v} is n =
       let r = refusal v n in
-      let tree : judgeTree t tree ≡ refused (r .number) (r .value) = sym is ∙ r .is in
+      let tree : judgeTree t tree ≡ refused (r .number) (r .values) = sym is ∙ r .is in
       rw tree (r .is)
 
-  pub node-refuses : judgeTree t tree ≡ accepted → t .nodes ≤ node → refused 10 0 ≡ judgeAsked t tree node
+  pub node-refuses : judgeTree t tree ≡ accepted → t .nodes ≤ node → refused 10 (only 0) ≡ judgeAsked t tree node
   unfolding judgeAsked
   node-refuses e l = rw (e, le-leb (t .nodes) node l) refl
 

@@ -15,7 +15,7 @@ use Rattle.rules.specs.Columns.{noLink}
 use Rattle.words.specs.Words.{decimal, digit, dash, space, linkText}
 use Rattle.words.specs.Putting.{Room, Put}
 use Rattle.words.proofs.Laws.{put-none, put-then, room-rest, room-front, one-digit, more-digits}
-use Rattle.lines.specs.Lines.{newline, ending, rowLine, changedLine, refusalLine, lineRoom}
+use Rattle.lines.specs.Lines.{newline, ending, rowLine, changedLine, refusalLine, againLine, lineRoom}
 
 -- ---- how long a line can be
 
@@ -67,6 +67,19 @@ module _ {text : List ℕ} {at : ℕ} (room : at + lineRoom ≤ length text) whe
       length-append (decimal place) (ending []),
       five number n,
       twenty place p,
+    );
+  }
+
+  pub again-room : (place earlier : ℕ) → place < 2 ^ 64 → earlier < 2 ^ 64 → Room text at (againLine place earlier)
+  again-room place earlier p e = record {
+    fits = omega (
+      arith,
+      length-append (decimal 9) (ending (decimal place ∷ decimal earlier ∷ [])),
+      length-append (decimal place) (ending (decimal earlier ∷ [])),
+      length-append (decimal earlier) (ending []),
+      five 9 (omega arith),
+      twenty place p,
+      twenty earlier e,
     );
   }
 

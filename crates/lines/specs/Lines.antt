@@ -1,6 +1,8 @@
 -- What a record tells, as a line of text, as the scope says it: one space between words. Assumes nothing.
 use Prim.Native.Nat.{ℕ}
+use mathlib.Core.Bool.{cond}
 use mathlib.Core.List.{List, [], _∷_, _++_, map}
+use lib.Dec.{eqb}
 use lib.ListN.{take}
 use Rattle.words.specs.Words.{space, decimal, linkText}
 use Rattle.state.specs.declared.Out.{Out}
@@ -35,12 +37,17 @@ changedLine count list = letterA ∷ ending (decimal count ∷ map decimal (take
 abbrev pub refusalLine : ℕ → ℕ → List ℕ
 refusalLine number place = letterR ∷ ending (decimal number ∷ decimal place ∷ [])
 
--- the whole line of what a record tells, given the list of changed nodes and the place of its kind byte
-abbrev pub lineOf : Out → List ℕ → ℕ → List ℕ
-lineOf Nothing list place = []
-lineOf (Row node dist parent first) list place = rowLine node dist parent first
-lineOf (Changed count) list place = changedLine count list
-lineOf (Refused number) list place = refusalLine number place
+-- refusal 9 tells the place of the earlier record too
+abbrev pub againLine : ℕ → ℕ → List ℕ
+againLine place earlier = letterR ∷ ending (decimal 9 ∷ decimal place ∷ decimal earlier ∷ [])
+
+-- the whole line of what a record tells, given the list of changed nodes, the place of its kind byte, and that of the
+-- earlier record with the same link
+abbrev pub lineOf : Out → List ℕ → ℕ → ℕ → List ℕ
+lineOf Nothing list place earlier = []
+lineOf (Row node dist parent first) list place earlier = rowLine node dist parent first
+lineOf (Changed count) list place earlier = changedLine count list
+lineOf (Refused number) list place earlier = cond (eqb number 9) (againLine place earlier) (refusalLine number place)
 
 -- how many entries of the list a line tells
 abbrev pub entriesIn : Out → ℕ

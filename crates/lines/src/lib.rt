@@ -3,7 +3,7 @@ ghost use mathlib.Core.Path.{_≡_};
 ghost use Prim.Native.Nat.{_+_, _≤_};
 ghost use lib.Dec.{leb};
 ghost use lib.ListN.{length};
-ghost use Rattle.lines.specs.Lines.{rowLine, changedLine, refusalLine, lineOf, entriesIn, lineRoom};
+ghost use Rattle.lines.specs.Lines.{rowLine, changedLine, refusalLine, againLine, lineOf, entriesIn, lineRoom};
 ghost use Rattle.words.specs.Putting.{Put};
 use state::Out;
 
@@ -57,10 +57,29 @@ fn put_refusal(text: &mut [u8], at: usize, number: u16, place: usize) -> usize
     words::put_byte(text, end, b'\n')
 }
 
-// The line of what a record tells, at a place of the text; the place behind it.
-pub fn put_line(text: &mut [u8], at: usize, out: Out, list: &[u16], place: usize) -> usize
+// A link named twice: `R 9 place earlier`.
+fn put_again(text: &mut [u8], at: usize, place: usize, earlier: usize) -> usize
+    requires { ⌜ at + lineRoom ≤ length (now text) ⌝ }
+    ensures { λ r. ⌜ Put (now (text .entry)) at (againLine place earlier) (now (text .exit)) r ⌝ }
+{
+    let end = words::put_byte(text, at, b'R');
+    let end = words::put_word(text, end, 9);
+    let end = words::put_word(text, end, place as u64);
+    let end = words::put_word(text, end, earlier as u64);
+    words::put_byte(text, end, b'\n')
+}
+
+// The line of what a record tells, at a place of the text; the place behind it. `earlier` is for refusal 9 alone.
+pub fn put_line(
+    text: &mut [u8],
+    at: usize,
+    out: Out,
+    list: &[u16],
+    place: usize,
+    earlier: usize,
+) -> usize
     requires { ⌜ (at + lineRoom ≤ length (now text)) × (entriesIn out ≤ 256) × (entriesIn out ≤ length (now list)) ⌝ }
-    ensures { λ r. ⌜ Put (now (text .entry)) at (lineOf out (now (list .entry)) place) (now (text .exit)) r ⌝ }
+    ensures { λ r. ⌜ Put (now (text .entry)) at (lineOf out (now (list .entry)) place earlier) (now (text .exit)) r ⌝ }
 {
     match out {
         Out::Nothing => at,
@@ -71,6 +90,12 @@ pub fn put_line(text: &mut [u8], at: usize, out: Out, list: &[u16], place: usize
             first,
         } => put_row(text, at, node, dist, parent, first),
         Out::Changed { count } => put_changed(text, at, list, count),
-        Out::Refused { number } => put_refusal(text, at, number, place),
+        Out::Refused { number } => {
+            if number == 9 {
+                put_again(text, at, place, earlier)
+            } else {
+                put_refusal(text, at, number, place)
+            }
+        }
     }
 }

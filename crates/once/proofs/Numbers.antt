@@ -1,11 +1,11 @@
 -- What each C function hands back and writes: two results that keep its promise on one input are equal, number and
--- value among them. Assumes nothing.
+-- values among them. Assumes nothing.
 use mathlib.Core.Path.{_≡_, sym, ap, _∙_}
-use mathlib.Core.List.{List}
+use mathlib.Core.List.{List, [], _∷_}
 use Prim.Native.Nat.{ℕ}
 use Rattle.rules.specs.Columns.{Table, Arrays}
 use Rattle.rules.specs.Refusals.{Verdict}
-use Rattle.rules.specs.Answers.{numberIn, valueIn}
+use Rattle.rules.specs.Answers.{numberIn, valueIn, secondIn}
 use Rattle.rules.specs.Jobs.{Built, Updated, Pathed}
 use Rattle.rules.specs.declared.Change.{Change}
 use Rattle.rules.proofs.OneOutcome.{built-once, updated-once, pathed-once}
@@ -13,15 +13,18 @@ use Rattle.stream.specs.declared.Read.{Read}
 use Rattle.plain.specs.Verdicts.{InNumbers}
 use Rattle.plain.specs.Readings.{HandedBack}
 
--- the same number and the same value
-pub record SameTold (m n x y : ℕ) : Type 0 where
+-- the same number and the same values
+pub record SameTold (m n : ℕ) (x y : List ℕ) : Type 0 where
   pub number : m ≡ n
-  pub value : x ≡ y
+  pub values : x ≡ y
 
-same-told : {A B : Verdict → Type 0} {m n x y : ℕ} (a : InNumbers A m x) (b : InNumbers B n y) → a .verdict ≡ b .verdict → SameTold m n x y
-same-told a b e = record { number = a .number-is ∙ ap numberIn e ∙ sym (b .number-is); value = a .value-is ∙ ap valueIn e ∙ sym (b .value-is) }
+same-told : {A B : Verdict → Type 0} {m n : ℕ} {x y : List ℕ} (a : InNumbers A m x) (b : InNumbers B n y) → a .verdict ≡ b .verdict → SameTold m n x y
+same-told a b e = record {
+  number = a .number-is ∙ ap numberIn e ∙ sym (b .number-is);
+  values = a .values-are ∙ ap (λ (v : Verdict). valueIn v ∷ secondIn v ∷ []) e ∙ sym (b .values-are);
+}
 
-module _ {m n x y : ℕ} where
+module _ {m n : ℕ} {x y : List ℕ} where
   -- `routes_judge_links`, `routes_judge_tree`
   pub judge-once : {v : Verdict} → InNumbers (λ w. w ≡ v) m x → InNumbers (λ w. w ≡ v) n y → SameTold m n x y
   judge-once a b = same-told a b (a .outcome ∙ sym (b .outcome))

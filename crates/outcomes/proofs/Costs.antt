@@ -30,7 +30,7 @@ narrow-set {l} i x n fits = record { narrow = λ k. at k (ℕ-discrete k i) (dec
 
 narrow-entered : (v : Verdict) {l : List ℕ} (i x : ℕ) → SixteenBit l → x ≤ mostCost → SixteenBit (entered v l i x)
 narrow-entered accepted i x n fits = narrow-set i x n fits
-narrow-entered (refused number value) i x n fits = n
+narrow-entered (refused number values) i x n fits = n
 
 narrow-applied : (links prices costs : List ℕ) → SixteenBit prices → SixteenBit costs → SixteenBit (applied (rowsOfColumns links prices) costs)
 unfolding applied rowsOfColumns

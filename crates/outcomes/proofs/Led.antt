@@ -94,14 +94,14 @@ ready-given t (stays p) = t p
 
 changing-given : (s : State) (k : Lists) (v : Verdict) → TreeGiven s k → TreeGiven (changing v s .state) k
 changing-given s k accepted t = t
-changing-given s k (refused number value) t = t
+changing-given s k (refused number values) t = t
 
 not-routing : {p : Phase} → p ≡ Linking → p ≡ Routing → ⊥
 not-routing e q = true-false (ap isLinking (sym e ∙ q))
 
 networked-phase : (v : Verdict) (s : State) (nodes root : ℕ) → s .phase ≡ Unread → networked v s nodes root .state .phase ≡ Routing → ⊥
 networked-phase accepted s nodes root p q = not-routing refl q
-networked-phase (refused number value) s nodes root p q = true-false (ap isUnread (sym p ∙ q))
+networked-phase (refused number values) s nodes root p q = true-false (ap isUnread (sym p ∙ q))
 
 -- the tree is that of a fresh build over the links, and of the batches applied since
 pub led-stands : {from : State} {lent : Lists} {items : List Item} {s : State} {k : Lists} → from .phase ≡ Unread → Led from lent items s k

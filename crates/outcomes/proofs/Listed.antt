@@ -12,7 +12,7 @@ use lib.Seq.{length-take-le}
 use borrow.Author.Tests.{lt-leb, eqb-false}
 use Rattle.rules.specs.Tests.{firstBelow}
 use Rattle.rules.specs.Columns.{table, mostLinks, mostRows}
-use Rattle.rules.specs.Refusals.{Verdict, accepted, refused, _then_, when, wrongNodeCount, wrongRoot, wrongEnds, judgeLinks}
+use Rattle.rules.specs.Refusals.{Values, only, both, Verdict, accepted, refused, _then_, when, wrongNodeCount, wrongRoot, wrongEnds, judgeLinks}
 use Rattle.rules.proofs.Judged.{not-refused}
 use Rattle.stream.specs.declared.Item.{Item}
 use Rattle.stream.specs.declared.Item.the-variants.{Network, Link, Change, Ask}
@@ -44,21 +44,21 @@ not-changed : {count n : ℕ} → Changed count ≡ Refused n → ⊥
 not-changed e = let z : _≡_ {A = ℕ} 0 1 = cc in omega arith
 
 record RefusedBy (v : Verdict) (n : ℕ) : Type 0 where
-  value : ℕ
-  is : v ≡ refused n value
+  values : Values
+  is : v ≡ refused n values
 
 -- of a record that is judged, and refused or done
-module _ (out : Verdict → Out) (done : out accepted ≡ Nothing) (refuses : (number value : ℕ) → out (refused number value) ≡ Refused number) where
+module _ (out : Verdict → Out) (done : out accepted ≡ Nothing) (refuses : (number : ℕ) (values : Values) → out (refused number values) ≡ Refused number) where
   verdict-of : (v : Verdict) {n : ℕ} → out v ≡ Refused n → RefusedBy v n
   verdict-of accepted e = absurd (not-nothing (sym done ∙ e))
-  verdict-of (refused number value) {n} e =
-      let told : Refused number ≡ Refused n = sym (refuses number value) ∙ e in
+  verdict-of (refused number values) {n} e =
+      let told : Refused number ≡ Refused n = sym (refuses number values) ∙ e in
       let same : number ≡ n = cc in
-      record { value = value; is = rw same refl }
+      record { values = values; is = rw same refl }
 
 -- ---- which number each judgment gives
 
-network-number : (nodes root : ℕ) {n x : ℕ} → judgeLinks (table nodes root [] [] []) ≡ refused n x → (n ≡ 1) ⊎ (n ≡ 2)
+network-number : (nodes root : ℕ) {n : ℕ} {x : Values} → judgeLinks (table nodes root [] [] []) ≡ refused n x → (n ≡ 1) ⊎ (n ≡ 2)
 unfolding judgeLinks firstBelow
 network-number nodes root {n} {x} e = at (wrongNodeCount (table nodes root [] [] [])) (wrongRoot (table nodes root [] [] [])) e
   where
@@ -67,12 +67,12 @@ network-number nodes root {n} {x} e = at (wrongNodeCount (table nodes root [] []
     at false true q = inr (cc)
     at false false q = absurd (not-refused (sym q))
 
-last-number : (ends order : Bool) (p : ℕ) {n x : ℕ} → cond ends (refused 4 p) accepted then cond order (refused 5 p) accepted ≡ refused n x → (n ≡ 4) ⊎ (n ≡ 5)
+last-number : (ends order : Bool) (p : ℕ) {n : ℕ} {x : Values} → cond ends (refused 4 (only p)) accepted then cond order (refused 5 (only p)) accepted ≡ refused n x → (n ≡ 4) ⊎ (n ≡ 5)
 last-number true order p e = inl (cc)
 last-number false true p e = inr (cc)
 last-number false false p e = absurd (not-refused (sym e))
 
-row-number : (none named : Bool) (p : ℕ) {n x : ℕ} → cond (none || named) (refused (cond none 8 9) p) accepted ≡ refused n x → (n ≡ 8) ⊎ (n ≡ 9)
+row-number : (none named : Bool) (p : Values) {n : ℕ} {x : Values} → cond (none || named) (refused (cond none 8 9) p) accepted ≡ refused n x → (n ≡ 8) ⊎ (n ≡ 9)
 row-number true named p e = inl (cc)
 row-number false true p e = inr (cc)
 row-number false false p e = absurd (not-refused (sym e))
@@ -105,7 +105,7 @@ module _ (s : State) (k : Lists) (t : tableIn s k) (start end cost : ℕ) where
   ends-listed (inl e) = rw e wrong-ends
   ends-listed (inr e) = rw e wrong-order
 
-  link-listed : {n x : ℕ} → linkVerdict s k start end cost ≡ refused n x → ForKind s (Link start end cost) n
+  link-listed : {n : ℕ} {x : Values} → linkVerdict s k start end cost ≡ refused n x → ForKind s (Link start end cost) n
   link-listed {n} {x} e = at (decLt (s .links) mostLinks)
     where
       front : List ℕ
@@ -117,7 +117,7 @@ module _ (s : State) (k : Lists) (t : tableIn s k) (start end cost : ℕ) where
       at : Dec (s .links < mostLinks) → ForKind s (Link start end cost) n
       at (yes l) = ends-listed (last-number (wrongEnds (s .nodes) start end) (ltb start (getD front (length front - 1) 0)) (length front) (link-decides (s .nodes) (s .root) (take (s .links) (k .starts)) (take (s .links) (k .ends)) (take (s .links) (k .costs)) start end cost (t .judged) (omega (arith, so-far)) refl refl ∙ e))
       at (no l) =
-          let told : refused 3 0 ≡ refused n x = past-links (s .nodes) (s .root) (take (s .links) (k .starts)) (take (s .links) (k .ends)) (take (s .links) (k .costs)) start end cost (t .judged) (omega (arith, so-far)) ∙ e in
+          let told : refused 3 (only 0) ≡ refused n x = past-links (s .nodes) (s .root) (take (s .links) (k .starts)) (take (s .links) (k .ends)) (take (s .links) (k .costs)) start end cost (t .judged) (omega (arith, so-far)) ∙ e in
           let is : n ≡ 3 = cc in
           rw is (no-place (omega (arith, t .few-links)))
 
@@ -126,7 +126,7 @@ module _ {s r : State} (m : Met s r) where
   row-listed named cost (inl e) = rw e no-link
   row-listed named cost (inr e) = rw e again
 
-  change-listed : (k : Lists) → treeIn r k → lentIn k → (named cost : ℕ) {n x : ℕ} → changeVerdict r k named cost ≡ refused n x → ForKind s (Change named cost) n
+  change-listed : (k : Lists) → treeIn r k → lentIn k → (named cost : ℕ) {n : ℕ} {x : Values} → changeVerdict r k named cost ≡ refused n x → ForKind s (Change named cost) n
   change-listed k t w named cost {n} {x} e = at (decLt (r .rows) mostRows)
     where
       front : List ℕ
@@ -139,9 +139,9 @@ module _ {s r : State} (m : Met s r) where
       as-many = omega (arith, so-far, length-take-le (r .rows) (k .newcosts) (omega (arith, t .few-rows, w .newcosts-long)))
 
       at : Dec (r .rows < mostRows) → ForKind s (Change named cost) n
-      at (yes l) = row-listed named cost (row-number (leb (length (take (r .links) (k .starts))) named) (ltb (firstNaming front named) (length front)) (length front) (row-decides (tableOf r (k .starts) (k .ends) (k .costs)) (take (r .rows) (k .changed)) (take (r .rows) (k .newcosts)) named cost as-many (t .rows-judged) refl refl (omega (arith, so-far)) ∙ e))
+      at (yes l) = row-listed named cost (row-number (leb (length (take (r .links) (k .starts))) named) (ltb (firstNaming front named) (length front)) (both (length front) (cond (leb (length (take (r .links) (k .starts))) named) 0 (firstNaming front named))) (row-decides (tableOf r (k .starts) (k .ends) (k .costs)) (take (r .rows) (k .changed)) (take (r .rows) (k .newcosts)) named cost as-many (t .rows-judged) refl refl (omega (arith, so-far)) ∙ e))
       at (no l) =
-          let told : refused 7 0 ≡ refused n x = past-rows (tableOf r (k .starts) (k .ends) (k .costs)) (take (r .rows) (k .changed)) (take (r .rows) (k .newcosts)) named cost as-many (t .rows-judged) (omega (arith, so-far)) ∙ e in
+          let told : refused 7 (only 0) ≡ refused n x = past-rows (tableOf r (k .starts) (k .ends) (k .costs)) (take (r .rows) (k .changed)) (take (r .rows) (k .newcosts)) named cost as-many (t .rows-judged) (omega (arith, so-far)) ∙ e in
           let is : n ≡ 7 = cc in
           rw is (no-row (omega (arith, t .few-rows, m .rows)))
 
@@ -210,15 +210,15 @@ module _ {s : State} {k : Lists} where
 
   left-network : (nodes root : ℕ) (v : Verdict) {n : ℕ} → networked v s nodes root .out ≡ Refused n → Left s k (networked v s nodes root .state) k
   left-network nodes root accepted q = absurd (not-nothing q)
-  left-network nodes root (refused number value) q = left-all
+  left-network nodes root (refused number values) q = left-all
 
   left-link : (start end cost : ℕ) (v : Verdict) {n : ℕ} → linked v s .out ≡ Refused n → Left s k (linked v s .state) (linkLists v s k start end cost)
   left-link start end cost accepted q = absurd (not-nothing q)
-  left-link start end cost (refused number value) q = left-all
+  left-link start end cost (refused number values) q = left-all
 
   left-change : {r : State} → Ready s k r → (named cost : ℕ) (v : Verdict) {n : ℕ} → changing v r .out ≡ Refused n → Left s k (changing v r .state) (changeLists v r k named cost)
   left-change ready named cost accepted q = absurd (not-nothing q)
-  left-change ready named cost (refused number value) q = left-met ready
+  left-change ready named cost (refused number values) q = left-met ready
 
 -- a refused record changes nothing
 pub refused-leaves : {s : State} {k : Lists} {item : Item} {d : Done} {l : Lists} {n : ℕ} → Steps s k item d l → d .out ≡ Refused n → Left s k (d .state) l

@@ -14,7 +14,7 @@ use Rattle.rules.specs.Net.{Net}
 use Rattle.rules.specs.Fit.{Rows, Hung, Fits, Path, Reached}
 use Rattle.rules.specs.Tests.{reached}
 use Rattle.rules.specs.Columns.{Table, Arrays, Proper, Whole, narrow, netIn, netOf, rowsIn, rowsOf, mostNodes, noLink}
-use Rattle.rules.specs.Refusals.{Verdict, accepted, refused, when, judgeTree, judgeAsked}
+use Rattle.rules.specs.Refusals.{only, Verdict, accepted, refused, when, judgeTree, judgeAsked}
 use Rattle.rules.specs.Jobs.{Pathed, pathed, too-short}
 use Rattle.rules.specs.declared.Profile.{Profile}
 use Rattle.rules.proofs.Logic.{true-T, getD-any, by-size}
@@ -29,7 +29,7 @@ use Rattle.path.specs.declared.Traced.the-variants.{Written, TooShort}
 -- what the rules say of an answer: refusal 12, or acceptance with the count
 abbrev pub verdictOf : Traced → Verdict
 verdictOf (Written n) = accepted
-verdictOf TooShort = refused 12 0
+verdictOf TooShort = refused 12 (only 0)
 
 abbrev pub countOf : Traced → ℕ
 countOf (Written n) = n

@@ -14,7 +14,7 @@ use Rattle.rules.specs.Fit.{Rows, Tight, Hung, Row, Fits, Path, at-root, by-par
 use Rattle.rules.specs.Keep.{Smallest, Choice, keeps, takes, Fresh, Next}
 use Rattle.rules.specs.Tests.{all, usable, tight, hungRow, breaks}
 use Rattle.rules.specs.Columns.{Table, Proper, Arrays, Whole, netOf, rowsOf, mostNodes, after, applied}
-use Rattle.rules.specs.Refusals.{Verdict, accepted, refused, judgeLinks, judgeTree, judgeBatch, judgeUpdate, judgeAsked}
+use Rattle.rules.specs.Refusals.{Values, both, Verdict, accepted, refused, judgeLinks, judgeTree, judgeBatch, judgeUpdate, judgeAsked}
 use Rattle.rules.specs.Jobs.{changedBelow, built, updated, not-updated, pathed}
 use Rattle.pier.specs.Pier.{Line, fresh, update, refuse, path, LineHolds, LinesHold, pierLines}
 use Rattle.rules.specs.declared.Change.{Change}
@@ -27,11 +27,11 @@ use Rattle.rules.proofs.OneOutcome.{after-proper, tree-links}
 
 unfoldable isAccepted : Verdict → Bool
 isAccepted accepted = true
-isAccepted (refused number value) = false
+isAccepted (refused number values) = false
 
-unfoldable isRefused : ℕ → ℕ → Verdict → Bool
+unfoldable isRefused : ℕ → Values → Verdict → Bool
 isRefused n x accepted = false
-isRefused n x (refused number value) = eqb number n && eqb value x
+isRefused n x (refused number values) = eqb number n && eqb (values .value) (x .value) && eqb (values .second) (x .second)
 
 unfoldable same : List ℕ → List ℕ → Bool
 same [] [] = true
@@ -81,7 +81,7 @@ passes (fresh t tree) = isAccepted (judgeLinks t) && whole tree && isFresh (netO
 passes (update t old batch new changed) =
     isAccepted (judgeBatch t old batch) && whole new && isNext (netOf (after t batch)) (rowsOf new) (rowsOf old .parent)
     && same changed (changedBelow (rowsOf old) (rowsOf new) (t .nodes))
-passes (refuse t old batch number value) = isRefused number value (judgeBatch t old batch)
+passes (refuse t old batch number values) = isRefused number values (judgeBatch t old batch)
 passes (path t tree node links) =
     isAccepted (judgeAsked t tree node) && leads (netOf t) (rowsOf tree) node (backward links) && same (backward (backward links)) links
 
@@ -90,15 +90,20 @@ passes (path t tree node links) =
 accepted-of : (v : Verdict) → T (isAccepted v) → v ≡ accepted
 unfolding isAccepted
 accepted-of accepted q = refl
-accepted-of (refused number value) q = absurd q
+accepted-of (refused number values) q = absurd q
 
-refused-of : (n x : ℕ) (v : Verdict) → T (isRefused n x v) → v ≡ refused n x
+refused-of : (n : ℕ) (x : Values) (v : Verdict) → T (isRefused n x v) → v ≡ refused n x
 unfolding isRefused
 refused-of n x accepted q = absurd q
-refused-of n x (refused number value) q =
-    let a = eqb→eq number n (and-l (eqb number n) (eqb value x) q) in
-    let b = eqb→eq value x (and-r (eqb number n) (eqb value x) q) in
-    cc
+refused-of n x (refused number values) q =
+    let same-number = eqb number n in
+    let same-value = eqb (values .value) (x .value) in
+    let same-second = eqb (values .second) (x .second) in
+    let front = and-l (same-number && same-value) same-second q in
+    let a = eqb→eq number n (and-l same-number same-value front) in
+    let b = eqb→eq (values .value) (x .value) (and-r same-number same-value front) in
+    let c = eqb→eq (values .second) (x .second) (and-r (same-number && same-value) same-second q) in
+    λ i. refused (a i) (both (b i) (c i))
 
 same-of : (xs ys : List ℕ) → T (same xs ys) → xs ≡ ys
 unfolding same
@@ -180,7 +185,7 @@ pub long-enough : (t : Table) (old : Arrays) (batch : List Change) (list : List 
 unfolding judgeUpdate
 long-enough t old batch list e l = rw (e, le-ltb (length list) (t .nodes) l) refl
 
-still-refused : (t : Table) (old : Arrays) (batch : List Change) (list : List ℕ) {n x : ℕ} → judgeBatch t old batch ≡ refused n x → judgeUpdate t old batch list ≡ refused n x
+still-refused : (t : Table) (old : Arrays) (batch : List Change) (list : List ℕ) {n : ℕ} {x : Values} → judgeBatch t old batch ≡ refused n x → judgeUpdate t old batch list ≡ refused n x
 unfolding judgeUpdate
 still-refused t old batch list e = rw e refl
 
@@ -200,7 +205,7 @@ line-holds (update t old batch new changed) q = λ list l.
     updated changed (long-enough t old batch list e l) w
     (next-of (after-proper batch (batch-table t old batch e)) new w (rowsOf old .parent) (search (and-l, and-r)))
     (same-of changed (changedBelow (rowsOf old) (rowsOf new) (t .nodes)) (search (and-l, and-r)))
-line-holds (refuse t old batch number value) q = λ list. not-updated (still-refused t old batch list (refused-of number value (judgeBatch t old batch) q))
+line-holds (refuse t old batch number values) q = λ list. not-updated (still-refused t old batch list (refused-of number values (judgeBatch t old batch) q))
 line-holds (path t tree node links) q = λ list l.
     let way = leads-of (netOf t) (rowsOf tree) node (backward links) (search (and-l, and-r)) in
     let turned = same-of (backward (backward links)) links (search (and-l, and-r)) in

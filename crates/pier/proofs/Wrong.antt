@@ -7,7 +7,7 @@ use Prim.Native.Nat.{ℕ, _≤_}
 use native.Mathlib.Omega.{arith}
 use lib.ListN.{length}
 use Rattle.rules.specs.Columns.{Arrays, rowsOf, after, applied}
-use Rattle.rules.specs.Refusals.{Verdict, accepted, refused}
+use Rattle.rules.specs.Refusals.{Values, Verdict, accepted, refused}
 use Rattle.rules.specs.Jobs.{written, Built, Updated}
 use Rattle.pier.specs.Pier.{LinesHold, pierLines, pier, lone, rows, padded, batch2, batch4, tree1, tree2, tree4, tree12}
 use Rattle.rules.proofs.Judged.{not-refused}
@@ -38,7 +38,7 @@ differ-at v n e = n (ap (λ (t : Arrays). rowsOf t .dist v) e)
 
 -- ---- a build that refuses every time
 
-pub never-builds : {number value : ℕ} {tree : Arrays} → Built pier (refused number value) tree → ⊥
+pub never-builds : {number : ℕ} {values : Values} {tree : Arrays} → Built pier (refused number values) tree → ⊥
 never-builds b = not-refused (built-once b p1 .verdict)
 
 -- ---- one fixed tree
@@ -49,7 +49,7 @@ fixed-tree a b = differ-at 1 (λ e. omega arith) (sym (built-once a p1 .tree) �
 
 module _ {list costs listed : List ℕ} {count : ℕ} (long : 4 ≤ length list) where
   -- ---- an update that refuses every time
-  pub never-updates : {number value : ℕ} {tree : Arrays} → Updated pier tree1 batch2 list (refused number value) tree costs listed count → ⊥
+  pub never-updates : {number : ℕ} {values : Values} {tree : Arrays} → Updated pier tree1 batch2 list (refused number values) tree costs listed count → ⊥
   never-updates u = not-refused (updated-once u (p2 list long) .verdict)
 
   -- ---- one that hands its tree back

@@ -4,7 +4,7 @@ use mathlib.Core.List.{List, [], _∷_, _++_}
 use Prim.Native.Nat.{ℕ, _-_, _≤_}
 use lib.ListN.{length, replicate}
 use Rattle.rules.specs.Columns.{Table, Arrays, arrays, mostNodes, unreached, noLink, after, applied}
-use Rattle.rules.specs.Refusals.{accepted, refused}
+use Rattle.rules.specs.Refusals.{both, Values, accepted, refused}
 use Rattle.rules.specs.Jobs.{written, Built, Updated, Pathed}
 use Rattle.rules.specs.declared.Change.{Change}
 
@@ -45,7 +45,7 @@ none = noLink
 pub data Line : Type 0 where
   fresh : (t : Table) (tree : Arrays) → Line
   update : (t : Table) (old : Arrays) (batch : List Change) (new : Arrays) (changed : List ℕ) → Line
-  refuse : (t : Table) (old : Arrays) (batch : List Change) (number value : ℕ) → Line
+  refuse : (t : Table) (old : Arrays) (batch : List Change) (number : ℕ) (values : Values) → Line
   path : (t : Table) (tree : Arrays) (node : ℕ) (links : List ℕ) → Line
 
 -- whatever list is lent, if it is long enough
@@ -53,7 +53,7 @@ abbrev pub LineHolds : Line → Type 0
 LineHolds (fresh t tree) = Built t accepted tree
 LineHolds (update t old batch new changed) = (list : List ℕ) → t .nodes ≤ length list
     → Updated t old batch list accepted new (applied batch (t .costs)) (written changed list) (length changed)
-LineHolds (refuse t old batch number value) = (list : List ℕ) → Updated t old batch list (refused number value) old (t .costs) list 0
+LineHolds (refuse t old batch number values) = (list : List ℕ) → Updated t old batch list (refused number values) old (t .costs) list 0
 LineHolds (path t tree node links) = (list : List ℕ) → length links ≤ length list → Pathed t tree node list accepted (written links list) (length links)
 
 unfoldable pub LinesHold : List Line → Type 0
@@ -121,7 +121,7 @@ pierLines =
     -- P10
     update pier tree1 (7 to 0 ∷ []) tree1 [] ∷
     -- P11
-    refuse pier tree1 (3 to 5 ∷ 0 to 2 ∷ 3 to 6 ∷ []) 9 2 ∷
+    refuse pier tree1 (3 to 5 ∷ 0 to 2 ∷ 3 to 6 ∷ []) 9 (both 2 0) ∷
     -- P12
     fresh lone tree12 ∷
     path lone tree12 0 [] ∷

@@ -1,25 +1,26 @@
 // Answers and records as plain numbers, for programs in other languages.
 ghost use mathlib.Core.Path.{_≡_};
+ghost use mathlib.Core.List.{[], _∷_};
 ghost use Rattle.stream.specs.Records.{readAt};
-ghost use Rattle.rules.specs.Answers.{numberOf, valueOf};
+ghost use Rattle.rules.specs.Answers.{numberOf, valueOf, secondOf};
 ghost use Rattle.rules.specs.Lent.{lent, left};
 ghost use Rattle.plain.specs.Readings.{HandedBack, partsOf};
 use rules::Answer;
 use stream::Item;
 
-// The number, with the value written.
-pub fn tell(answer: Answer, value: &mut u16) -> u16
-    ensures { λ r. ⌜ (r ≡ numberOf answer) × (left value ≡ valueOf answer) ⌝ }
+// The number, with both values written.
+pub fn tell(answer: Answer, values: &mut [u16; 2]) -> u16
+    ensures { λ r. ⌜ (r ≡ numberOf answer) × (left values ≡ valueOf answer ∷ secondOf answer ∷ []) ⌝ }
 {
-    *value = rules::value(answer);
+    *values = [rules::value(answer), rules::second(answer)];
     rules::number(answer)
 }
 
-// A record as other languages take it: its kind, and its numbers with 0 in the places that it doesn't have. Where there
+// A record as other languages take it: its kind, and its numbers, 32 bits wide, with 0 in the places that it doesn't have. Where there
 // is none, all of it is 0.
 struct Parts {
     kind: u8,
-    numbers: [u16; 3],
+    numbers: [u32; 3],
 }
 
 fn take_apart(item: Item) -> Parts
@@ -28,15 +29,15 @@ fn take_apart(item: Item) -> Parts
     match item {
         Item::Network { nodes, root } => Parts {
             kind: 1,
-            numbers: [nodes, root, 0],
+            numbers: [nodes as u32, root as u32, 0],
         },
         Item::Link { start, end, cost } => Parts {
             kind: 2,
-            numbers: [start, end, cost],
+            numbers: [start as u32, end as u32, cost as u32],
         },
         Item::Change { link, cost } => Parts {
             kind: 3,
-            numbers: [link, cost, 0],
+            numbers: [link as u32, cost as u32, 0],
         },
         Item::Apply => Parts {
             kind: 4,
@@ -44,7 +45,7 @@ fn take_apart(item: Item) -> Parts
         },
         Item::Ask { node } => Parts {
             kind: 5,
-            numbers: [node, 0, 0],
+            numbers: [node as u32, 0, 0],
         },
         Item::End => Parts {
             kind: 0,
@@ -66,7 +67,7 @@ pub fn read(
     bytes: &[u8],
     place: usize,
     kind: &mut u8,
-    numbers: &mut [u16; 3],
+    numbers: &mut [u32; 3],
     next: &mut usize,
 ) -> u16
     ensures { λ r. ⌜ HandedBack (readAt (lent bytes) place) r (left kind) (left numbers) (left next) ⌝ }

@@ -84,7 +84,7 @@ pub record Alike (s : State) (k : Lists) (s' : State) (k' : Lists) : Type 0 wher
 
 -- two outcomes tell the same, and unless they are refusals they are alike
 pub record Same (d : Done) (l : Lists) (d' : Done) (l' : Lists) : Type 0 where
-  pub line : (place : ℕ) → lineOf (d .out) (l .list) place ≡ lineOf (d' .out) (l' .list) place
+  pub line : (place earlier : ℕ) → lineOf (d .out) (l .list) place earlier ≡ lineOf (d' .out) (l' .list) place earlier
   pub refuse : isRefusal (d .out) ≡ isRefusal (d' .out)
   pub alike : isRefusal (d .out) ≡ false → Alike (d .state) l (d' .state) l'
 
@@ -95,7 +95,7 @@ alike-at : {s r s' r' : State} {k k' : Lists} → s ≡ r → s' ≡ r' → Alik
 alike-at a b alike = rw (a, b) alike
 
 same-refusing : {s s' : State} {l l' : Lists} (number : ℕ) → Same (refusing s number) l (refusing s' number) l'
-same-refusing number = record { line = λ place. refl; refuse = refl; alike = λ e. absurd (both refl e) }
+same-refusing number = record { line = λ place earlier. refl; refuse = refl; alike = λ e. absurd (both refl e) }
 
 -- ---- phases
 
@@ -137,7 +137,7 @@ set-long n n' l l' x e = length-set l n x ∙ e ∙ sym (length-set l' n' x)
 same-network : (s s' : State) {k k' : Lists} → SameLong k k' → (nodes root : ℕ) (v : Verdict)
     → Same (networked v s nodes root) k (networked v s' nodes root) k'
 same-network s s' long nodes root accepted = record {
-  line = λ place. refl;
+  line = λ place earlier. refl;
   refuse = refl;
   alike = λ e. record {
     long = long;
@@ -149,7 +149,7 @@ same-network s s' long nodes root accepted = record {
     });
   };
 }
-same-network s s' long nodes root (refused number value) = same-refusing number
+same-network s s' long nodes root (refused number values) = same-refusing number
 
 -- ---- LINK
 
@@ -170,7 +170,7 @@ module _ {s s' : State} {k k' : Lists} (long : SameLong k k') (b : BothLinking s
 
   same-linked : (v : Verdict) → Same (linked v s) (linkLists v s k start end cost) (linked v s') (linkLists v s' k' start end cost)
   same-linked accepted = record {
-    line = λ place. refl;
+    line = λ place earlier. refl;
     refuse = refl;
     alike = λ e. record {
       long = link-long;
@@ -189,7 +189,7 @@ module _ {s s' : State} {k k' : Lists} (long : SameLong k k') (b : BothLinking s
       });
     };
   }
-  same-linked (refused number value) = same-refusing number
+  same-linked (refused number values) = same-refusing number
 
   same-link : Same (linked (linkVerdict s k start end cost) s) (linkLists (linkVerdict s k start end cost) s k start end cost)
       (linked (linkVerdict s' k' start end cost) s') (linkLists (linkVerdict s' k' start end cost) s' k' start end cost)
@@ -239,7 +239,7 @@ module _ {s s' : State} {k k' : Lists} (long : SameLong k k') (b : BothRouting s
 
     same-changing : (v : Verdict) → Same (changing v s) (changeLists v s k named cost) (changing v s') (changeLists v s' k' named cost)
     same-changing accepted = record {
-      line = λ place. refl;
+      line = λ place earlier. refl;
       refuse = refl;
       alike = λ e. record {
         long = record {
@@ -262,7 +262,7 @@ module _ {s s' : State} {k k' : Lists} (long : SameLong k k') (b : BothRouting s
         });
       };
     }
-    same-changing (refused number value) = same-refusing number
+    same-changing (refused number values) = same-refusing number
 
     same-change : Same (changing (changeVerdict s k named cost) s) (changeLists (changeVerdict s k named cost) s k named cost)
         (changing (changeVerdict s' k' named cost) s') (changeLists (changeVerdict s' k' named cost) s' k' named cost)
@@ -272,10 +272,10 @@ module _ {s s' : State} {k k' : Lists} (long : SameLong k k') (b : BothRouting s
 
   -- ---- ASK
 
-  asked-line : (past : Bool) (node dist parent first place : ℕ) (list list' : List ℕ)
-      → lineOf (cond past (Refused 10) (Row node dist parent first)) list place ≡ lineOf (cond past (Refused 10) (Row node dist parent first)) list' place
-  asked-line true node dist parent first place list list' = refl
-  asked-line false node dist parent first place list list' = refl
+  asked-line : (past : Bool) (node dist parent first place earlier : ℕ) (list list' : List ℕ)
+      → lineOf (cond past (Refused 10) (Row node dist parent first)) list place earlier ≡ lineOf (cond past (Refused 10) (Row node dist parent first)) list' place earlier
+  asked-line true node dist parent first place earlier list list' = refl
+  asked-line false node dist parent first place earlier list list' = refl
 
   asked-same : (node : ℕ) → asked s node ≡ asked s' node
   asked-same node =
@@ -287,8 +287,8 @@ module _ {s s' : State} {k k' : Lists} (long : SameLong k k') (b : BothRouting s
   same-ask node =
       let rows = rowsOf (arraysOf (s .tree)) in
       record {
-        line = λ place. asked-line (leb (s .nodes) node) node (rows .dist node) (rows .parent node) (rows .first node) place (k .list) (k' .list)
-            ∙ ap (λ (out : Out). lineOf out (k' .list) place) (asked-same node);
+        line = λ place earlier. asked-line (leb (s .nodes) node) node (rows .dist node) (rows .parent node) (rows .first node) place earlier (k .list) (k' .list)
+            ∙ ap (λ (out : Out). lineOf out (k' .list) place earlier) (asked-same node);
         refuse = ap isRefusal (asked-same node);
         alike = λ e. record { long = long; phases = routing b };
       }
@@ -337,8 +337,8 @@ column-long {n} {n'} old old' new new' e long front past past' =
     )
 
 changed-same : {out out' : Out} (list list' : List ℕ) {count count' : ℕ} → out ≡ Changed count → out' ≡ Changed count' → count ≡ count'
-    → take count list ≡ take count' list' → (place : ℕ) → lineOf out list place ≡ lineOf out' list' place
-changed-same list list' p q e told place = rw (p, q) (λ i. letterA ∷ ending (decimal (e i) ∷ map decimal (told i)))
+    → take count list ≡ take count' list' → (place earlier : ℕ) → lineOf out list place earlier ≡ lineOf out' list' place earlier
+changed-same list list' p q e told place earlier = rw (p, q) (λ i. letterA ∷ ending (decimal (e i) ∷ map decimal (told i)))
 
 module _ {s s' : State} {k k' : Lists} (long : SameLong k k') (b : BothRouting s k s' k') {d d' : Done} {costs costs' list list' : List ℕ}
     (a : Applied s (k .starts) (k .ends) (k .costs) (k .changed) (k .newcosts) (k .list) d costs list)
@@ -387,7 +387,7 @@ module _ {s s' : State} {k k' : Lists} (alike : Alike s k s' k') {d d' : Done} {
       same-at refl (x .lent) refl (y .lent) (same-apply (alike .long) (ready-alike (alike .phases) (x .ready) (y .ready)) (x .applies) (y .applies))
   does-same (Ask node) x y =
       same-at (x .done) (x .lent) (y .done) (y .lent) (same-ask (alike .long) (ready-alike (alike .phases) (x .ready) (y .ready)) node)
-  does-same End x y = same-at (x .0) (x .1) (y .0) (y .1) (record { line = λ place. refl; refuse = refl; alike = λ e. alike })
+  does-same End x y = same-at (x .0) (x .1) (y .0) (y .1) (record { line = λ place earlier. refl; refuse = refl; alike = λ e. alike })
   does-same (UnknownKind place) x y = same-at (x .0) refl (y .0) refl (same-refusing 21)
   does-same (CutShort place) x y = same-at (x .0) refl (y .0) refl (same-refusing 22)
 

@@ -8,6 +8,7 @@ use native.Mathlib.Decide.{decLt}
 use lib.ListN.{length, length-append}
 use Rattle.stream.specs.Records.{readAt, isRecord}
 use Rattle.splits.proofs.Splits.{both}
+use Rattle.earlier.specs.Earlier.{earlierOf}
 use Rattle.order.specs.declared.Phase.the-variants.{Unread}
 use Rattle.state.specs.declared.State.{State}
 use Rattle.session.specs.Holding.{Lists, Holds}
@@ -43,7 +44,7 @@ turns-once {stream} {place} (reads few steps) (reads few' steps') =
     let done = same .done in
     let after = same .lent in
     record {
-      lines = λ i. lineOf (done i .out) (after i .list) place;
+      lines = λ i. lineOf (done i .out) (after i .list) place (earlierOf stream place (readAt stream place .item));
       states = λ i. done i .state;
       lent = after;
       places = refl;
@@ -164,7 +165,7 @@ turn-same {stream} {place} a (reads {done} few steps) (reads few' steps') =
     let same = step-same a steps steps' in
     let here = isRecord (readAt stream place .item) in
     record {
-      lines = same .line place;
+      lines = same .line place _;
       places = refl;
       ways = ap (λ (refuses : Bool). here && not refuses) (same .refuse);
       alike = λ goes. same .alike (second-true here (isRefusal (done .out)) goes);

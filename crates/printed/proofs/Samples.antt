@@ -37,24 +37,29 @@ unfolding decimal decimalIn
 links = (refl, refl)
 
 -- `N 2 6 3 0`
-pub row : lineOf (Row 2 6 3 0) [] 0 ≡ 78 ∷ 32 ∷ 50 ∷ 32 ∷ 54 ∷ 32 ∷ 51 ∷ 32 ∷ 48 ∷ 10 ∷ []
+pub row : lineOf (Row 2 6 3 0) [] 0 0 ≡ 78 ∷ 32 ∷ 50 ∷ 32 ∷ 54 ∷ 32 ∷ 51 ∷ 32 ∷ 48 ∷ 10 ∷ []
 unfolding decimal decimalIn
 row = refl
 
 -- `N 0 0 - -`, the root's row
-pub root-row : lineOf (Row 0 0 65535 65535) [] 0 ≡ 78 ∷ 32 ∷ 48 ∷ 32 ∷ 48 ∷ 32 ∷ 45 ∷ 32 ∷ 45 ∷ 10 ∷ []
+pub root-row : lineOf (Row 0 0 65535 65535) [] 0 0 ≡ 78 ∷ 32 ∷ 48 ∷ 32 ∷ 48 ∷ 32 ∷ 45 ∷ 32 ∷ 45 ∷ 10 ∷ []
 unfolding decimal decimalIn
 root-row = refl
 
 -- `A 3 1 2 3`, and no word of the list's other entries
-pub changed : lineOf (Changed 3) (1 ∷ 2 ∷ 3 ∷ 9 ∷ []) 0 ≡ 65 ∷ 32 ∷ 51 ∷ 32 ∷ 49 ∷ 32 ∷ 50 ∷ 32 ∷ 51 ∷ 10 ∷ []
+pub changed : lineOf (Changed 3) (1 ∷ 2 ∷ 3 ∷ 9 ∷ []) 0 0 ≡ 65 ∷ 32 ∷ 51 ∷ 32 ∷ 49 ∷ 32 ∷ 50 ∷ 32 ∷ 51 ∷ 10 ∷ []
 unfolding decimal decimalIn
 changed = refl
 
 -- `R 21 84`
-pub refusal : lineOf (Refused 21) [] 84 ≡ 82 ∷ 32 ∷ 50 ∷ 49 ∷ 32 ∷ 56 ∷ 52 ∷ 10 ∷ []
+pub refusal : lineOf (Refused 21) [] 84 0 ≡ 82 ∷ 32 ∷ 50 ∷ 49 ∷ 32 ∷ 56 ∷ 52 ∷ 10 ∷ []
 unfolding decimal decimalIn
 refusal = refl
 
-pub nothing : lineOf Nothing [] 0 ≡ []
+-- `R 9 66 61`, the earlier record's place behind that of the refused one
+pub again : lineOf (Refused 9) [] 66 61 ≡ 82 ∷ 32 ∷ 57 ∷ 32 ∷ 54 ∷ 54 ∷ 32 ∷ 54 ∷ 49 ∷ 10 ∷ []
+unfolding decimal decimalIn
+again = refl
+
+pub nothing : lineOf Nothing [] 0 0 ≡ []
 nothing = refl

@@ -11,7 +11,7 @@ use Rattle.state.specs.declared.State.{State}
 use Rattle.state.specs.declared.Done.{Done}
 use Rattle.session.specs.Holding.{Lists}
 use Rattle.outcomes.specs.Outcomes.{Led, Answers}
-use Rattle.lines.specs.Lines.{rowLine, changedLine, refusalLine}
+use Rattle.lines.specs.Lines.{rowLine, changedLine, refusalLine, againLine}
 
 -- what was read from a place on, the latest first, and the place behind it
 pub data ReadFrom (stream : List ℕ) (start : ℕ) : List Item → ℕ → Type 0 where
@@ -41,6 +41,7 @@ pub data OtherLine : List ℕ → Type 0 where
   silent : OtherLine []
   changed : (count : ℕ) (list : List ℕ) → OtherLine (changedLine count list)
   refused : (number place : ℕ) → OtherLine (refusalLine number place)
+  again : (place earlier : ℕ) → OtherLine (againLine place earlier)
 
 -- a text of lines, of which each N line shows the least sum
 pub data LeastText (stream : List ℕ) (from : State) (lent : Lists) : List ℕ → Type 0 where

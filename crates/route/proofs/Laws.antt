@@ -3,7 +3,7 @@ use mathlib.Core.Path.{_≡_, sym, _∙_}
 use mathlib.Core.List.{List}
 use Prim.Native.Nat.{ℕ}
 use Rattle.rules.specs.Columns.{Table, Arrays, Whole}
-use Rattle.rules.specs.Refusals.{Verdict, accepted, refused, judgeAsked}
+use Rattle.rules.specs.Refusals.{only, Verdict, accepted, refused, judgeAsked}
 use Rattle.rules.specs.Jobs.{Pathed, not-pathed}
 use Rattle.judge.proofs.Laws.{refusal}
 use Rattle.path.specs.Climb.{Traces}
@@ -21,5 +21,5 @@ module _ (t : Table) (tree : Arrays) (node : ℕ) (w : Whole tree) (e : judgeAsk
   pub path-told : {n : ℕ} → r ≡ Written n → {v : Verdict} → v ≡ accepted → Pathed t tree node list v exit n
   path-told {n} is a = rw a (rw is at (traces-pathed t tree node w e h))
 
-  pub path-short : r ≡ TooShort → Pathed t tree node list (refused 12 0) exit 0
+  pub path-short : r ≡ TooShort → Pathed t tree node list (refused 12 (only 0)) exit 0
   path-short is = rw is at (traces-pathed t tree node w e h)

@@ -13,8 +13,8 @@ use borrow.Author.Tests.{lt-ltb, le-ltb, le-leb, eq-eqb, ltb-true, leb-true, eqb
 use Rattle.rules.specs.Fit.{Row, Path}
 use Rattle.rules.specs.Tests.{firstBelow, breaks, reached}
 use Rattle.rules.specs.Columns.{Table, Arrays, netOf, rowsOf, mostNodes, mostLinks, mostRows, unreached}
-use Rattle.rules.specs.Refusals.{Verdict, accepted, _then_, when, whenOne, wrongNodeCount, wrongRoot, wrongColumns, wrongEndsAt, wrongOrderAt, judgeLinks, judgeTree, linkAt, namesNoLink, namesAgain, firstBadRow, judgeRows, judgeBatch, judgeUpdate, judgeAsked}
-use Rattle.rules.specs.Applies.{FirstOf, BadEnds, start-no-node, end-no-node, start-is-end, Falls, OfTable, no-nodes, many-nodes, root-no-node, ends-unequal, costs-unequal, many-links, wrong-ends, wrong-order, OfTree, of-table, unfit, BadRow, no-link, again, OfUpdate, many-rows, bad-row, OfPath, no-node, no-route, Gives, none, smallest}
+use Rattle.rules.specs.Refusals.{Values, only, both, earliest, Verdict, accepted, _then_, when, whenOne, wrongNodeCount, wrongRoot, wrongColumns, wrongEndsAt, wrongOrderAt, judgeLinks, judgeTree, linkAt, namesNoLink, namesAgain, firstBadRow, judgeRows, judgeBatch, judgeUpdate, judgeAsked}
+use Rattle.rules.specs.Applies.{FirstOf, BadEnds, start-no-node, end-no-node, start-is-end, Falls, OfTable, no-nodes, many-nodes, root-no-node, ends-unequal, costs-unequal, many-links, wrong-ends, wrong-order, OfTree, of-table, unfit, BadRow, no-link, again, Bad, bad, OfUpdate, many-rows, bad-row, OfPath, no-node, no-route, Gives, none, smallest}
 use Rattle.rules.specs.Jobs.{Pathed, pathed, too-short, not-pathed}
 use Rattle.rules.specs.declared.Change.{Change}
 use Rattle.rules.proofs.Logic.{first-of, or-cases, or-r, T-true, true-T, true-false}
@@ -25,14 +25,14 @@ use Rattle.rules.proofs.Judged.{not-refused}
 -- ---- one number, and several asked in rising order
 
 -- a number that applies where something is so, and carries 0
-data Only (number : ℕ) (So : Type 0) : ℕ → ℕ → Type 0 where
-  only : So → Only number So number 0
+data Only (number : ℕ) (So : Type 0) : ℕ → Values → Type 0 where
+  just : So → Only number So number (only 0)
 
 -- a number that applies where something is so of one of n places, and carries the first
-data OnlyFirst (number n : ℕ) (So : ℕ → Type 0) : ℕ → ℕ → Type 0 where
-  first : {place : ℕ} → FirstOf n So place → OnlyFirst number n So number place
+data OnlyFirst (number n : ℕ) (So : ℕ → Type 0) : ℕ → Values → Type 0 where
+  first : {place : ℕ} → FirstOf n So place → OnlyFirst number n So number (only place)
 
-data Either (A B : ℕ → ℕ → Type 0) (number value : ℕ) : Type 0 where
+data Either (A B : ℕ → Values → Type 0) (number : ℕ) (value : Values) : Type 0 where
   here : A number value → Either A B number value
   there : B number value → Either A B number value
 
@@ -42,20 +42,20 @@ record Decides (test : Bool) (So : Type 0) : Type 0 where
   so-yes : So → test ≡ true
 
 gives-when : (test : Bool) (number : ℕ) {So : Type 0} → Decides test So → Gives (Only number So) (when test number)
-gives-when true number {So} d = smallest (only (d .yes-so refl)) bound carries
+gives-when true number {So} d = smallest (just (d .yes-so refl)) bound carries
   where
-    bound : (m x : ℕ) → Only number So m x → number ≤ m
-    bound m x (only s) = omega arith
+    bound : (m : ℕ) (x : Values) → Only number So m x → number ≤ m
+    bound m x (just s) = omega arith
 
-    carried : {m x : ℕ} → Only number So m x → x ≡ 0
-    carried (only s) = refl
+    carried : {m : ℕ} {x : Values} → Only number So m x → x ≡ only 0
+    carried (just s) = refl
 
-    carries : (x : ℕ) → Only number So number x → x ≡ 0
+    carries : (x : Values) → Only number So number x → x ≡ only 0
     carries x o = carried o
 gives-when false number {So} d = none at
   where
-    at : (m x : ℕ) → Only number So m x → ⊥
-    at m x (only s) = true-false (sym (d .so-yes s))
+    at : (m : ℕ) (x : Values) → Only number So m x → ⊥
+    at m x (just s) = true-false (sym (d .so-yes s))
 
 -- what is first by a test is the first of which something is so
 module _ (n : ℕ) (test : ℕ → Bool) {So : ℕ → Type 0} (d : (i : ℕ) → Decides (test i) (So i)) where
@@ -83,14 +83,14 @@ gives-first : (n : ℕ) (test : ℕ → Bool) (number : ℕ) {So : ℕ → Type 
     → Gives (OnlyFirst number n So) (whenOne n test number)
 gives-first n test number {So} d = at (decLt (firstBelow test n) n)
   where
-    bound : (m x : ℕ) → OnlyFirst number n So m x → number ≤ m
+    bound : (m : ℕ) (x : Values) → OnlyFirst number n So m x → number ≤ m
     bound m x (first s) = omega arith
 
-    empty : n ≤ firstBelow test n → (m x : ℕ) → OnlyFirst number n So m x → ⊥
+    empty : n ≤ firstBelow test n → (m : ℕ) (x : Values) → OnlyFirst number n So m x → ⊥
     empty l m x (first s) = nothing n test d l s
 
-    carried : {y m x : ℕ} → FirstOf n So y → OnlyFirst number n So m x → x ≡ y
-    carried f (first s) = one-first s f
+    carried : {y m : ℕ} {x : Values} → FirstOf n So y → OnlyFirst number n So m x → x ≡ only y
+    carried f (first s) = ap only (one-first s f)
 
     at : Dec (firstBelow test n < n) → Gives (OnlyFirst number n So) (whenOne n test number)
     at (yes l) = let f = found n test d l in rw (lt-ltb (firstBelow test n) n l) (smallest (first f) bound (λ x o. carried f o))
@@ -99,58 +99,58 @@ gives-first n test number {So} d = at (decLt (firstBelow test n) n)
 -- ---- numbers asked in rising order
 
 -- a verdict and the numbers that it can have
-record Says (from to : ℕ) (A : ℕ → ℕ → Type 0) (v : Verdict) : Type 0 where
+record Says (from to : ℕ) (A : ℕ → Values → Type 0) (v : Verdict) : Type 0 where
   gives : Gives A v
-  least : (m x : ℕ) → A m x → from ≤ m
-  most : (m x : ℕ) → A m x → m ≤ to
+  least : (m : ℕ) (x : Values) → A m x → from ≤ m
+  most : (m : ℕ) (x : Values) → A m x → m ≤ to
 
 says-when : (number : ℕ) (test : Bool) {So : Type 0} → Decides test So → Says number number (Only number So) (when test number)
 says-when number test {So} d = record { gives = gives-when test number d; least = low; most = high }
   where
-    low : (m x : ℕ) → Only number So m x → number ≤ m
-    low m x (only s) = omega arith
+    low : (m : ℕ) (x : Values) → Only number So m x → number ≤ m
+    low m x (just s) = omega arith
 
-    high : (m x : ℕ) → Only number So m x → m ≤ number
-    high m x (only s) = omega arith
+    high : (m : ℕ) (x : Values) → Only number So m x → m ≤ number
+    high m x (just s) = omega arith
 
 says-first : (number n : ℕ) (test : ℕ → Bool) {So : ℕ → Type 0} → ((i : ℕ) → Decides (test i) (So i))
     → Says number number (OnlyFirst number n So) (whenOne n test number)
 says-first number n test {So} d = record { gives = gives-first n test number d; least = low; most = high }
   where
-    low : (m x : ℕ) → OnlyFirst number n So m x → number ≤ m
+    low : (m : ℕ) (x : Values) → OnlyFirst number n So m x → number ≤ m
     low m x (first s) = omega arith
 
-    high : (m x : ℕ) → OnlyFirst number n So m x → m ≤ number
+    high : (m : ℕ) (x : Values) → OnlyFirst number n So m x → m ≤ number
     high m x (first s) = omega arith
 
 -- the second's numbers are above the first's
-module _ {mid next : ℕ} (apart : mid < next) {A B : ℕ → ℕ → Type 0} (upto : (m x : ℕ) → A m x → m ≤ mid) (above : (m x : ℕ) → B m x → next ≤ m) where
+module _ {mid next : ℕ} (apart : mid < next) {A B : ℕ → Values → Type 0} (upto : (m : ℕ) (x : Values) → A m x → m ≤ mid) (above : (m : ℕ) (x : Values) → B m x → next ≤ m) where
   -- a refusal stands, whatever is asked behind it
   gives-early : {v : Verdict} → Gives A v → (v ≡ accepted → ⊥) → Gives (Either A B) v
   gives-early (none a) n = absurd (n refl)
-  gives-early (smallest {number} {value} a least one) n = smallest (here a) bound carries
+  gives-early (smallest {number} {values} a least one) n = smallest (here a) bound carries
     where
-      bound : (m x : ℕ) → Either A B m x → number ≤ m
+      bound : (m : ℕ) (x : Values) → Either A B m x → number ≤ m
       bound m x (here s) = least m x s
-      bound m x (there s) = omega (arith, upto number value a, above m x s)
+      bound m x (there s) = omega (arith, upto number values a, above m x s)
 
-      carries : (x : ℕ) → Either A B number x → x ≡ value
+      carries : (x : Values) → Either A B number x → x ≡ values
       carries x (here s) = one x s
-      carries x (there s) = absurd (omega (arith, upto number value a, above number x s))
+      carries x (there s) = absurd (omega (arith, upto number values a, above number x s))
 
   gives-then : {v w : Verdict} → Gives A v → Gives B w → Gives (Either A B) (v then w)
   gives-then (none a) (none b) = none at
     where
-      at : (m x : ℕ) → Either A B m x → ⊥
+      at : (m : ℕ) (x : Values) → Either A B m x → ⊥
       at m x (here s) = a m x s
       at m x (there s) = b m x s
-  gives-then (none a) (smallest {number} {value} b least one) = smallest (there b) bound carries
+  gives-then (none a) (smallest {number} {values} b least one) = smallest (there b) bound carries
     where
-      bound : (m x : ℕ) → Either A B m x → number ≤ m
+      bound : (m : ℕ) (x : Values) → Either A B m x → number ≤ m
       bound m x (here s) = absurd (a m x s)
       bound m x (there s) = least m x s
 
-      carries : (x : ℕ) → Either A B number x → x ≡ value
+      carries : (x : Values) → Either A B number x → x ≡ values
       carries x (here s) = absurd (a number x s)
       carries x (there s) = one x s
   gives-then (smallest a least one) g = gives-early (smallest a least one) not-refused
@@ -160,24 +160,24 @@ record Rising (from mid next to : ℕ) : Type 0 where
   apart : mid < next
   second-part : next ≤ to
 
-says-then : {from mid next to : ℕ} → Rising from mid next to → {A B : ℕ → ℕ → Type 0} {v w : Verdict} → Says from mid A v → Says next to B w
+says-then : {from mid next to : ℕ} → Rising from mid next to → {A B : ℕ → Values → Type 0} {v w : Verdict} → Says from mid A v → Says next to B w
     → Says from to (Either A B) (v then w)
 says-then {from} {to = to} r {A} {B} p q = record { gives = gives-then (r .apart) (p .most) (q .least) (p .gives) (q .gives); least = low; most = high }
   where
-    low : (m x : ℕ) → Either A B m x → from ≤ m
+    low : (m : ℕ) (x : Values) → Either A B m x → from ≤ m
     low m x (here s) = p .least m x s
     low m x (there s) = omega (arith, q .least m x s)
 
-    high : (m x : ℕ) → Either A B m x → m ≤ to
+    high : (m : ℕ) (x : Values) → Either A B m x → m ≤ to
     high m x (here s) = omega (arith, p .most m x s)
     high m x (there s) = q .most m x s
 
 -- the same numbers and values, said in another way
-gives-same : {A B : ℕ → ℕ → Type 0} {v : Verdict} → ((m x : ℕ) → A m x → B m x) → ((m x : ℕ) → B m x → A m x) → Gives A v → Gives B v
+gives-same : {A B : ℕ → Values → Type 0} {v : Verdict} → ((m : ℕ) (x : Values) → A m x → B m x) → ((m : ℕ) (x : Values) → B m x → A m x) → Gives A v → Gives B v
 gives-same to from (none a) = none (λ m x b. a m x (from m x b))
 gives-same to from (smallest a least one) = smallest (to _ _ a) (λ m x b. least m x (from m x b)) (λ x b. one x (from _ x b))
 
-says-same : {i j : ℕ} {A B : ℕ → ℕ → Type 0} {v : Verdict} → ((m x : ℕ) → A m x → B m x) → ((m x : ℕ) → B m x → A m x) → Says i j A v → Says i j B v
+says-same : {i j : ℕ} {A B : ℕ → Values → Type 0} {v : Verdict} → ((m : ℕ) (x : Values) → A m x → B m x) → ((m : ℕ) (x : Values) → B m x → A m x) → Says i j A v → Says i j B v
 says-same to from p =
     record { gives = gives-same to from (p .gives); least = λ m x b. p .least m x (from m x b); most = λ m x b. p .most m x (from m x b) }
 
@@ -245,27 +245,27 @@ module _ (t : Table) where
   abbrev Columns : Type 0
   Columns = ((length (t .starts) ≢ length (t .ends)) ⊎ (length (t .starts) ≢ length (t .costs))) ⊎ (mostLinks < length (t .starts))
 
-  abbrev Asked : ℕ → ℕ → Type 0
+  abbrev Asked : ℕ → Values → Type 0
   Asked = Either (Only 1 Counts) (Either (Only 2 (t .nodes ≤ t .root)) (Either (Only 3 Columns)
       (Either (OnlyFirst 4 (length (t .starts)) (BadEnds t)) (OnlyFirst 5 (length (t .starts)) (Falls t)))))
 
-  to-table : (m x : ℕ) → Asked m x → OfTable t m x
-  to-table m x (here (only (inl e))) = no-nodes e
-  to-table m x (here (only (inr l))) = many-nodes l
-  to-table m x (there (here (only l))) = root-no-node l
-  to-table m x (there (there (here (only (inl (inl n)))))) = ends-unequal n
-  to-table m x (there (there (here (only (inl (inr n)))))) = costs-unequal n
-  to-table m x (there (there (here (only (inr l))))) = many-links l
+  to-table : (m : ℕ) (x : Values) → Asked m x → OfTable t m x
+  to-table m x (here (just (inl e))) = no-nodes e
+  to-table m x (here (just (inr l))) = many-nodes l
+  to-table m x (there (here (just l))) = root-no-node l
+  to-table m x (there (there (here (just (inl (inl n)))))) = ends-unequal n
+  to-table m x (there (there (here (just (inl (inr n)))))) = costs-unequal n
+  to-table m x (there (there (here (just (inr l))))) = many-links l
   to-table m x (there (there (there (here (first f))))) = wrong-ends f
   to-table m x (there (there (there (there (first f))))) = wrong-order f
 
-  from-table : (m x : ℕ) → OfTable t m x → Asked m x
-  from-table m x (no-nodes e) = here (only (inl e))
-  from-table m x (many-nodes l) = here (only (inr l))
-  from-table m x (root-no-node l) = there (here (only l))
-  from-table m x (ends-unequal n) = there (there (here (only (inl (inl n)))))
-  from-table m x (costs-unequal n) = there (there (here (only (inl (inr n)))))
-  from-table m x (many-links l) = there (there (here (only (inr l))))
+  from-table : (m : ℕ) (x : Values) → OfTable t m x → Asked m x
+  from-table m x (no-nodes e) = here (just (inl e))
+  from-table m x (many-nodes l) = here (just (inr l))
+  from-table m x (root-no-node l) = there (here (just l))
+  from-table m x (ends-unequal n) = there (there (here (just (inl (inl n)))))
+  from-table m x (costs-unequal n) = there (there (here (just (inl (inr n)))))
+  from-table m x (many-links l) = there (there (here (just (inr l))))
   from-table m x (wrong-ends f) = there (there (there (here (first f))))
   from-table m x (wrong-order f) = there (there (there (there (first f))))
 
@@ -295,14 +295,14 @@ module _ (t : Table) (tree : Arrays) where
       at n true e = refl
       at n false e = absurd (n (keeps-rules (netOf t) (rowsOf tree) v e))
 
-  abbrev Unfit : ℕ → ℕ → Type 0
+  abbrev Unfit : ℕ → Values → Type 0
   Unfit = OnlyFirst 6 mostNodes (λ v. Row (netOf t) (rowsOf tree) v → ⊥)
 
-  to-tree : (m x : ℕ) → Either (OfTable t) Unfit m x → OfTree t tree m x
+  to-tree : (m : ℕ) (x : Values) → Either (OfTable t) Unfit m x → OfTree t tree m x
   to-tree m x (here s) = of-table s
   to-tree m x (there (first f)) = unfit f
 
-  from-tree : (m x : ℕ) → OfTree t tree m x → Either (OfTable t) Unfit m x
+  from-tree : (m : ℕ) (x : Values) → OfTree t tree m x → Either (OfTable t) Unfit m x
   from-tree m x (of-table s) = here s
   from-tree m x (unfit f) = there (first f)
 
@@ -318,46 +318,59 @@ module _ (t : Table) (tree : Arrays) where
 -- ---- an update: 1 to 9 and 12
 
 module _ (t : Table) (batch : List Change) where
-  no-link-decides : (row : ℕ) → Decides (namesNoLink t batch row) (BadRow t batch row 8)
+  no-link-decides : (row : ℕ) → Decides (namesNoLink t batch row) (BadRow t batch row 8 0)
   unfolding namesNoLink
   no-link-decides row = record { yes-so = λ e. no-link (leb-true (length (t .starts)) (linkAt batch row) e); so-yes = λ b. le-leb (length (t .starts)) (linkAt batch row) (at b refl) }
     where
-      at : {m : ℕ} → BadRow t batch row m → m ≡ 8 → length (t .starts) ≤ linkAt batch row
+      at : {m s : ℕ} → BadRow t batch row m s → m ≡ 8 → length (t .starts) ≤ linkAt batch row
       at (no-link l) e = l
-      at (again i l q) e = absurd (omega arith)
+      at (again f) e = absurd (omega arith)
 
-  again-decides : (row : ℕ) → Decides (namesAgain batch row) (BadRow t batch row 9)
+  abbrev Same : ℕ → ℕ → Type 0
+  Same row i = linkAt batch i ≡ linkAt batch row
+
+  same-decides : (row i : ℕ) → Decides (eqb (linkAt batch i) (linkAt batch row)) (Same row i)
+  same-decides row i = decides-eq (linkAt batch i) (linkAt batch row)
+
+  abbrev same : ℕ → ℕ → Bool
+  same row i = eqb (linkAt batch i) (linkAt batch row)
+
+  names-again : {row earlier : ℕ} → FirstOf row (Same row) earlier → namesAgain batch row ≡ true
   unfolding namesAgain
-  again-decides row = record { yes-so = λ e. let l = ltb-true (firstBelow same row) row e in again (firstBelow same row) l (eqb-true _ _ (first-of same row .passes l)); so-yes = λ b. at b refl (decLt (firstBelow same row) row) }
+  names-again {row} f = at (decLt (earliest batch row) row)
     where
-      same : ℕ → Bool
-      same earlier = eqb (linkAt batch earlier) (linkAt batch row)
+      at : Dec (earliest batch row < row) → ltb (earliest batch row) row ≡ true
+      at (yes l) = lt-ltb (earliest batch row) row l
+      at (no l) = absurd (nothing row (same row) (same-decides row) (omega arith) f)
 
-      at : {m : ℕ} → BadRow t batch row m → m ≡ 9 → Dec (firstBelow same row < row) → ltb (firstBelow same row) row ≡ true
-      at b e (yes f) = lt-ltb (firstBelow same row) row f
-      at (no-link l) e (no f) = absurd (omega arith)
-      at (again i l q) e (no f) = absurd (true-false (sym (eq-eqb (linkAt batch i) (linkAt batch row) q) ∙ first-of same row .before i (omega arith)))
+  first-same : {row : ℕ} → namesAgain batch row ≡ true → FirstOf row (Same row) (earliest batch row)
+  unfolding namesAgain
+  first-same {row} e = found row (same row) (same-decides row) (ltb-true (earliest batch row) row e)
 
-  abbrev Bad : ℕ → Type 0
-  Bad row = (m : ℕ) × BadRow t batch row m
-
-  bad-decides : (row : ℕ) → Decides (namesNoLink t batch row || namesAgain batch row) (Bad row)
-  bad-decides row = record { yes-so = λ e. at (by .yes-so e); so-yes = λ b. by .so-yes (back (b .1)) }
+  again-decides : (row : ℕ) → Decides (namesAgain batch row) (BadRow t batch row 9 (earliest batch row))
+  again-decides row = record { yes-so = λ e. again (first-same e); so-yes = λ b. at b refl }
     where
-      by : Decides (namesNoLink t batch row || namesAgain batch row) (BadRow t batch row 8 ⊎ BadRow t batch row 9)
+      at : {m s : ℕ} → BadRow t batch row m s → m ≡ 9 → namesAgain batch row ≡ true
+      at (no-link l) e = absurd (omega arith)
+      at (again f) e = names-again f
+
+  bad-decides : (row : ℕ) → Decides (namesNoLink t batch row || namesAgain batch row) (Bad t batch row)
+  bad-decides row = record { yes-so = λ e. at (by .yes-so e); so-yes = back }
+    where
+      by : Decides (namesNoLink t batch row || namesAgain batch row) (BadRow t batch row 8 0 ⊎ BadRow t batch row 9 (earliest batch row))
       by = decides-or _ _ (no-link-decides row) (again-decides row)
 
-      at : BadRow t batch row 8 ⊎ BadRow t batch row 9 → Bad row
-      at (inl b) = (8, b)
-      at (inr b) = (9, b)
+      at : BadRow t batch row 8 0 ⊎ BadRow t batch row 9 (earliest batch row) → Bad t batch row
+      at (inl b) = bad b
+      at (inr b) = bad b
 
-      back : {m : ℕ} → BadRow t batch row m → BadRow t batch row 8 ⊎ BadRow t batch row 9
-      back (no-link l) = inl (no-link l)
-      back (again i l q) = inr (again i l q)
+      back : Bad t batch row → (namesNoLink t batch row || namesAgain batch row) ≡ true
+      back (bad (no-link l)) = by .so-yes (inl (no-link l))
+      back (bad (again f)) = by .so-yes (inr (again (first-same (names-again f))))
 
   -- 8 and 9, by the first bad row
-  data OfRows : ℕ → ℕ → Type 0 where
-    bad : {number row : ℕ} → BadRow t batch row number → FirstOf (length batch) Bad row → OfRows number row
+  data OfRows : ℕ → Values → Type 0 where
+    at-row : {number row second : ℕ} → BadRow t batch row number second → FirstOf (length batch) (Bad t batch) row → OfRows number (both row second)
 
   rows-gives : Gives OfRows (judgeRows t batch)
   unfolding judgeRows firstBadRow
@@ -366,59 +379,65 @@ module _ (t : Table) (batch : List Change) where
       test : ℕ → Bool
       test row = namesNoLink t batch row || namesAgain batch row
 
-      empty : length batch ≤ firstBadRow t batch → (m x : ℕ) → OfRows m x → ⊥
-      empty l m x (bad b f) = nothing (length batch) test bad-decides l f
+      empty : length batch ≤ firstBadRow t batch → (m : ℕ) (x : Values) → OfRows m x → ⊥
+      empty l m x (at-row b f) = nothing (length batch) test bad-decides l f
 
-      carried : {y m x : ℕ} → FirstOf (length batch) Bad y → OfRows m x → x ≡ y
-      carried f (bad b s) = one-first s f
+      carried-8 : {y m : ℕ} {x : Values} → FirstOf (length batch) (Bad t batch) y → OfRows m x → m ≡ 8 → x ≡ only y
+      carried-8 f (at-row (no-link l) s) e = ap only (one-first s f)
+      carried-8 f (at-row (again g) s) e = absurd (omega arith)
 
-      eight : {m x : ℕ} → OfRows m x → 8 ≤ m
-      eight (bad (no-link l) f) = omega arith
-      eight (bad (again i l q) f) = omega arith
+      carried-9 : {y m : ℕ} {x : Values} → FirstOf (length batch) (Bad t batch) y → OfRows m x → m ≡ 9 → x ≡ both y (earliest batch y)
+      carried-9 f (at-row (no-link l) s) e = absurd (omega arith)
+      carried-9 f (at-row {row = row} (again g) s) e =
+          ap (both row) (one-first g (first-same (names-again g))) ∙ ap (λ z. both z (earliest batch z)) (one-first s f)
+
+      eight : {m : ℕ} {x : Values} → OfRows m x → 8 ≤ m
+      eight (at-row (no-link l) f) = omega arith
+      eight (at-row (again g) f) = omega arith
 
       -- the first bad row names a link
-      nine : {y m x : ℕ} → FirstOf (length batch) Bad y → namesNoLink t batch y ≡ false → OfRows m x → 9 ≤ m
-      nine f e (bad (no-link l) s) = absurd (true-false (sym (no-link-decides _ .so-yes (no-link l)) ∙ rw (one-first s f) e))
-      nine f e (bad (again i l q) s) = omega arith
+      nine : {y m : ℕ} {x : Values} → FirstOf (length batch) (Bad t batch) y → namesNoLink t batch y ≡ false → OfRows m x → 9 ≤ m
+      nine f e (at-row (no-link l) s) = absurd (true-false (sym (no-link-decides _ .so-yes (no-link l)) ∙ rw (one-first s f) e))
+      nine f e (at-row (again g) s) = omega arith
 
       at : Dec (firstBadRow t batch < length batch) → (b : Bool) → namesNoLink t batch (firstBadRow t batch) ≡ b → Gives OfRows (judgeRows t batch)
       at (yes l) true e =
           let f = found (length batch) test bad-decides l in
-          rw (lt-ltb (firstBadRow t batch) (length batch) l, e) (smallest (bad (no-link-decides (firstBadRow t batch) .yes-so e) f) (λ m x o. eight o) (λ x o. carried f o))
+          rw (lt-ltb (firstBadRow t batch) (length batch) l, e) (smallest (at-row (no-link-decides (firstBadRow t batch) .yes-so e) f) (λ m x o. eight o) (λ x o. carried-8 f o refl))
       at (yes l) false e =
           let f = found (length batch) test bad-decides l in
-          rw (lt-ltb (firstBadRow t batch) (length batch) l, e) (smallest (bad (again-decides (firstBadRow t batch) .yes-so (rw e at (bad-decides (firstBadRow t batch) .so-yes (f .is-so)))) f) (λ m x o. nine f e o) (λ x o. carried f o))
+          rw (lt-ltb (firstBadRow t batch) (length batch) l, e) (smallest (at-row (again-decides (firstBadRow t batch) .yes-so (rw e at (bad-decides (firstBadRow t batch) .so-yes (f .is-so)))) f) (λ m x o. nine f e o) (λ x o. carried-9 f o refl))
       at (no l) b e = rw (le-ltb (firstBadRow t batch) (length batch) (omega arith)) (none (empty (omega arith)))
 
 rows-says : (t : Table) (batch : List Change) → Says 8 9 (OfRows t batch) (judgeRows t batch)
 rows-says t batch = record { gives = rows-gives t batch; least = low; most = high }
   where
-    low : (m x : ℕ) → OfRows t batch m x → 8 ≤ m
-    low m x (bad (no-link s) f) = omega arith
-    low m x (bad (again i s q) f) = omega arith
+    low : (m : ℕ) (x : Values) → OfRows t batch m x → 8 ≤ m
+    low m x (at-row (no-link s) f) = omega arith
+    low m x (at-row (again g) f) = omega arith
 
-    high : (m x : ℕ) → OfRows t batch m x → m ≤ 9
-    high m x (bad (no-link s) f) = omega arith
-    high m x (bad (again i s q) f) = omega arith
+    high : (m : ℕ) (x : Values) → OfRows t batch m x → m ≤ 9
+    high m x (at-row (no-link s) f) = omega arith
+    high m x (at-row (again g) f) = omega arith
 
 module _ (t : Table) (tree : Arrays) (batch : List Change) (list : List ℕ) where
-  abbrev Batches : ℕ → ℕ → Type 0
+  abbrev Batches : ℕ → Values → Type 0
   Batches = Either (OfTree t tree) (Either (Only 7 (mostRows < length batch)) (OfRows t batch))
 
-  abbrev Updates : ℕ → ℕ → Type 0
+  abbrev Updates : ℕ → Values → Type 0
   Updates = Either Batches (Only 12 (length list < t .nodes))
 
-  to-update : (m x : ℕ) → Updates m x → OfUpdate t tree batch list m x
+  to-update : (m : ℕ) (x : Values) → Updates m x → OfUpdate t tree batch list m x
   to-update m x (here (here s)) = OfUpdate.of-tree s
-  to-update m x (here (there (here (only l)))) = many-rows l
-  to-update m x (here (there (there (bad b f)))) = bad-row b f
-  to-update m x (there (only l)) = OfUpdate.list-short l
+  to-update m x (here (there (here (just l)))) = many-rows l
+  to-update m x (here (there (there (at-row b f)))) = bad-row b f
+  to-update m x (there (just l)) = OfUpdate.list-short l
 
-  from-update : (m x : ℕ) → OfUpdate t tree batch list m x → Updates m x
+  from-update : (m : ℕ) (x : Values) → OfUpdate t tree batch list m x → Updates m x
   from-update m x (OfUpdate.of-tree s) = here (here s)
-  from-update m x (many-rows l) = here (there (here (only l)))
-  from-update m x (bad-row b f) = here (there (there (bad b f)))
-  from-update m x (OfUpdate.list-short l) = there (only l)
+  from-update m x (many-rows l) = here (there (here (just l)))
+  from-update m x (bad-row b f) = here (there (there (at-row b f)))
+  from-update m x (OfUpdate.list-short l) = there (just l)
 
   pub update-gives : Gives (OfUpdate t tree batch list) (judgeUpdate t tree batch list)
   unfolding judgeUpdate judgeBatch
@@ -431,7 +450,7 @@ module _ (t : Table) (tree : Arrays) (batch : List Change) (list : List ℕ) whe
 -- ---- a path: 1 to 6 and 10 to 12
 
 module _ (t : Table) (tree : Arrays) (node : ℕ) where
-  abbrev Askeds : ℕ → ℕ → Type 0
+  abbrev Askeds : ℕ → Values → Type 0
   Askeds = Either (OfTree t tree) (Either (Only 10 (t .nodes ≤ node)) (Only 11 (rowsOf tree .dist node ≡ unreached)))
 
   unreached-decides : Decides (not (reached (netOf t) (rowsOf tree) node)) (rowsOf tree .dist node ≡ unreached)
@@ -456,17 +475,17 @@ module _ (t : Table) (tree : Arrays) (node : ℕ) (list : List ℕ) where
     path : Path (netOf t) (rowsOf tree) node links
     longer : length list < length links
 
-  to-path : (m x : ℕ) → Either (Askeds t tree node) (Only 12 Longer) m x → OfPath t tree node list m x
+  to-path : (m : ℕ) (x : Values) → Either (Askeds t tree node) (Only 12 Longer) m x → OfPath t tree node list m x
   to-path m x (here (here s)) = OfPath.of-tree s
-  to-path m x (here (there (here (only l)))) = no-node l
-  to-path m x (here (there (there (only e)))) = no-route e
-  to-path m x (there (only p)) = OfPath.list-short (p .path) (p .longer)
+  to-path m x (here (there (here (just l)))) = no-node l
+  to-path m x (here (there (there (just e)))) = no-route e
+  to-path m x (there (just p)) = OfPath.list-short (p .path) (p .longer)
 
-  from-path : (m x : ℕ) → OfPath t tree node list m x → Either (Askeds t tree node) (Only 12 Longer) m x
+  from-path : (m : ℕ) (x : Values) → OfPath t tree node list m x → Either (Askeds t tree node) (Only 12 Longer) m x
   from-path m x (OfPath.of-tree s) = here (here s)
-  from-path m x (no-node l) = here (there (here (only l)))
-  from-path m x (no-route e) = here (there (there (only e)))
-  from-path m x (OfPath.list-short {links} p l) = there (only (record { links = links; path = p; longer = l }))
+  from-path m x (no-node l) = here (there (here (just l)))
+  from-path m x (no-route e) = here (there (there (just e)))
+  from-path m x (OfPath.list-short {links} p l) = there (just (record { links = links; path = p; longer = l }))
 
   -- 12 is judged where the path is known
   with-path : (short : Bool) → Decides short Longer → judgeAsked t tree node ≡ accepted → Gives (OfPath t tree node list) (when short 12)
@@ -480,5 +499,5 @@ module _ (t : Table) (tree : Arrays) (node : ℕ) (list : List ℕ) where
       let asked = asked-says t tree node in
       gives-same to-path from-path (gives-early {mid = 11} {next = 12} (omega arith) (asked .most) twelve (rw e at (asked .gives)) not-refused)
     where
-      twelve : (m x : ℕ) → Only 12 Longer m x → 12 ≤ m
-      twelve m x (only s) = omega arith
+      twelve : (m : ℕ) (x : Values) → Only 12 Longer m x → 12 ≤ m
+      twelve m x (just s) = omega arith

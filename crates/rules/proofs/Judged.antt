@@ -1,5 +1,5 @@
 -- What an accepted call makes sure of. Assumes nothing.
-use mathlib.Core.Path.{_≡_, refl, sym}
+use mathlib.Core.Path.{_≡_, refl, sym, ap}
 use mathlib.Core.Logic.{_≢_}
 use mathlib.Core.Bool.{Bool, true, false, _||_, not}
 use mathlib.Core.List.{List}
@@ -14,23 +14,23 @@ use Rattle.rules.specs.Net.{Legal, Roomy}
 use Rattle.rules.specs.Fit.{Row, bare, Fits}
 use Rattle.rules.specs.Tests.{firstBelow, breaks}
 use Rattle.rules.specs.Columns.{Table, Proper, Arrays, Whole, netOf, rowsOf, mostNodes, mostLinks, mostCost, unreached, noLink}
-use Rattle.rules.specs.Refusals.{Verdict, accepted, refused, _then_, when, whenOne, wrongNodeCount, wrongRoot, wrongColumns, wrongEnds, wrongEndsAt, wrongOrderAt, judgeLinks, judgeTree}
+use Rattle.rules.specs.Refusals.{Values, only, both, Verdict, accepted, refused, _then_, when, whenOne, wrongNodeCount, wrongRoot, wrongColumns, wrongEnds, wrongEndsAt, wrongOrderAt, judgeLinks, judgeTree}
 use Rattle.rules.specs.Demands.{SixteenBit}
 use Rattle.rules.proofs.Logic.{First, first-of, true-false}
 use Rattle.rules.proofs.Check.{keeps-rules, breaks-rule}
 
 -- ---- verdicts
 
-pub not-refused : {number value : ℕ} → refused number value ≡ accepted → ⊥
+pub not-refused : {number : ℕ} {values : Values} → refused number values ≡ accepted → ⊥
 not-refused e = let z : _≡_ {A = ℕ} 0 1 = cc in omega arith
 
 pub then-first : (a b : Verdict) → a then b ≡ accepted → a ≡ accepted
 then-first accepted b e = refl
-then-first (refused number value) b e = e
+then-first (refused number values) b e = e
 
 pub then-second : (a b : Verdict) → a then b ≡ accepted → b ≡ accepted
 then-second accepted b e = e
-then-second (refused number value) b e = absurd (not-refused e)
+then-second (refused number values) b e = absurd (not-refused e)
 
 pub when-not : (test : Bool) (number : ℕ) → when test number ≡ accepted → test ≡ false
 when-not true number e = absurd (not-refused e)
@@ -43,13 +43,14 @@ none-of n test number e k l = at (first-of test n) (decLt (firstBelow test n) n)
     at f (yes s) = absurd (not-refused (rw (lt-ltb (firstBelow test n) n s) at e))
     at f (no s) = f .before k (omega arith)
 
-pub one-of : (n : ℕ) (test : ℕ → Bool) (number : ℕ) {m x : ℕ} → whenOne n test number ≡ refused m x → (m ≡ number) × (x < n) × First test n x
-one-of n test number {m} {x} e = at (decLt (firstBelow test n) n)
+pub one-of : (n : ℕ) (test : ℕ → Bool) (number : ℕ) {m x y : ℕ} → whenOne n test number ≡ refused m (both x y) → (m ≡ number) × (x < n) × First test n x
+one-of n test number {m} {x} {y} e = at (decLt (firstBelow test n) n)
   where
     at : Dec (firstBelow test n < n) → (m ≡ number) × (x < n) × First test n x
     at (yes l) =
-        let found : refused number (firstBelow test n) ≡ refused m x = rw (lt-ltb (firstBelow test n) n l) at e in
-        let here : firstBelow test n ≡ x = cc in
+        let found : refused number (only (firstBelow test n)) ≡ refused m (both x y) = rw (lt-ltb (firstBelow test n) n l) at e in
+        let same : only (firstBelow test n) ≡ both x y = cc in
+        let here : firstBelow test n ≡ x = ap (λ (v : Values). v .value) same in
         (cc, rw (← here) l, rw (← here) (first-of test n))
     at (no l) = absurd (not-refused (sym (rw (le-ltb (firstBelow test n) n (omega arith)) at e)))
 
@@ -138,7 +139,7 @@ pub record Unfit (t : Table) (tree : Arrays) (v : ℕ) : Type 0 where
   pub breaks : Row (netOf t) (rowsOf tree) v → ⊥
   pub before : (u : ℕ) → u < v → Row (netOf t) (rowsOf tree) u
 
-pub tree-unfit : (t : Table) (tree : Arrays) → judgeLinks t ≡ accepted → {number value : ℕ} → judgeTree t tree ≡ refused number value
+pub tree-unfit : (t : Table) (tree : Arrays) → judgeLinks t ≡ accepted → {number value second : ℕ} → judgeTree t tree ≡ refused number (both value second)
     → (number ≡ 6) × Unfit t tree value
 unfolding judgeTree
 tree-unfit t tree e f =

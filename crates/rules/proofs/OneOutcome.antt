@@ -20,20 +20,20 @@ use Rattle.rules.proofs.Unique.{same-dist, same-parent, same-first, fre
 use Rattle.rules.proofs.Sound.{path-unique}
 use Rattle.rules.proofs.Judged.{links-proper, legal, then-first, not-refused}
 
--- ---- answers: the number and the value tell the case
+-- ---- answers: the number and the values tell the case
 
 answer-of : Verdict → Answer
 answer-of accepted = Accepted
-answer-of (refused number value) =
+answer-of (refused number values) =
     cond (eqb number 1) WrongNodeCount (
     cond (eqb number 2) WrongRoot (
     cond (eqb number 3) WrongColumns (
-    cond (eqb number 4) (WrongEnds value) (
-    cond (eqb number 5) (WrongOrder value) (
-    cond (eqb number 6) (TreeUnfit value) (
+    cond (eqb number 4) (WrongEnds (values .value)) (
+    cond (eqb number 5) (WrongOrder (values .value)) (
+    cond (eqb number 6) (TreeUnfit (values .value)) (
     cond (eqb number 7) TooManyRows (
-    cond (eqb number 8) (RowNamesNoLink value) (
-    cond (eqb number 9) (RowNamesLinkAgain value) (
+    cond (eqb number 8) (RowNamesNoLink (values .value)) (
+    cond (eqb number 9) (RowNamesLinkAgain (values .value) (values .second)) (
     cond (eqb number 10) AskedNoNode (
     cond (eqb number 11) AskedUnreached (
     ListTooShort)))))))))))
@@ -49,7 +49,7 @@ answer-back (WrongOrder link) = refl
 answer-back (TreeUnfit node) = refl
 answer-back TooManyRows = refl
 answer-back (RowNamesNoLink row) = refl
-answer-back (RowNamesLinkAgain row) = refl
+answer-back (RowNamesLinkAgain row earlier) = refl
 answer-back AskedNoNode = refl
 answer-back AskedUnreached = refl
 answer-back ListTooShort = refl
@@ -72,7 +72,7 @@ number-zero (WrongOrder link) e = absurd (omega arith)
 number-zero (TreeUnfit node) e = absurd (omega arith)
 number-zero TooManyRows e = absurd (omega arith)
 number-zero (RowNamesNoLink row) e = absurd (omega arith)
-number-zero (RowNamesLinkAgain row) e = absurd (omega arith)
+number-zero (RowNamesLinkAgain row earlier) e = absurd (omega arith)
 number-zero AskedNoNode e = absurd (omega arith)
 number-zero AskedUnreached e = absurd (omega arith)
 number-zero ListTooShort e = absurd (omega arith)

@@ -6,7 +6,7 @@ use native.Mathlib.Omega.{arith}
 use borrow.Author.Count.{below-none, below-more}
 use borrow.Author.Tests.{lt-ltb, le-ltb}
 use Rattle.rules.specs.Tests.{firstBelow}
-use Rattle.rules.specs.Refusals.{accepted, refused, whenOne}
+use Rattle.rules.specs.Refusals.{only, accepted, refused, whenOne}
 use Rattle.rules.proofs.Logic.{first-is}
 
 -- of n places the first i have been seen, and f is the first of those that passes, or n where none does
@@ -44,7 +44,7 @@ module _ {p : ℕ → Bool} {n i f : ℕ} (s : Seen p n i f) where
   first-seen : f ≤ i → firstBelow p n ≡ f
   first-seen l = first-is (record { within = s .within; before = λ j m. s .before j (omega arith) m; passes = s .passes })
 
-  pub one-seen : (number : ℕ) → f < n → whenOne n p number ≡ refused number f
+  pub one-seen : (number : ℕ) → f < n → whenOne n p number ≡ refused number (only f)
   one-seen number l = rw (first-seen (omega (arith, s .found l)), lt-ltb f n l)
 
   pub none-seen : (number : ℕ) → n ≤ i → n ≤ f → whenOne n p number ≡ accepted

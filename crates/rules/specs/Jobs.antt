@@ -9,7 +9,7 @@ use lib.ListN.{length, drop}
 use Rattle.rules.specs.Fit.{Rows, Path}
 use Rattle.rules.specs.Keep.{Fresh, Next}
 use Rattle.rules.specs.Columns.{Table, Arrays, Whole, netOf, rowsOf, emptyTree, applied, after}
-use Rattle.rules.specs.Refusals.{Verdict, accepted, refused, judgeLinks, judgeUpdate, judgeAsked}
+use Rattle.rules.specs.Refusals.{Values, only, Verdict, accepted, refused, judgeLinks, judgeUpdate, judgeAsked}
 use Rattle.rules.specs.declared.Change.{Change}
 
 -- entries written at the front of a lent list, whose other places stay
@@ -29,7 +29,7 @@ changedBelow r s (suc n) = changedBelow r s n ++ cond (differs r s n) (n ∷ [])
 -- Fresh build
 pub data Built (t : Table) : Verdict → Arrays → Type 0 where
   built : {tree : Arrays} → judgeLinks t ≡ accepted → Whole tree → Fresh (netOf t) (rowsOf tree) → Built t accepted tree
-  not-built : {number value : ℕ} → judgeLinks t ≡ refused number value → Built t (refused number value) emptyTree
+  not-built : {number : ℕ} {values : Values} → judgeLinks t ≡ refused number values → Built t (refused number values) emptyTree
 
 -- Update: verdict, next tree, cost column, lent list and count
 pub data Updated (t : Table) (old : Arrays) (batch : List Change) (list : List ℕ) : Verdict → Arrays → List ℕ → List ℕ → ℕ → Type 0 where
@@ -37,14 +37,14 @@ pub data Updated (t : Table) (old : Arrays) (batch : List Change) (list : List �
       → Whole new → Next (netOf (after t batch)) (rowsOf new) (rowsOf old .parent)
       → changed ≡ changedBelow (rowsOf old) (rowsOf new) (t .nodes)
       → Updated t old batch list accepted new (applied batch (t .costs)) (written changed list) (length changed)
-  not-updated : {number value : ℕ} → judgeUpdate t old batch list ≡ refused number value
-      → Updated t old batch list (refused number value) old (t .costs) list 0
+  not-updated : {number : ℕ} {values : Values} → judgeUpdate t old batch list ≡ refused number values
+      → Updated t old batch list (refused number values) old (t .costs) list 0
 
 -- Path: verdict, lent list and count
 pub data Pathed (t : Table) (tree : Arrays) (node : ℕ) (list : List ℕ) : Verdict → List ℕ → ℕ → Type 0 where
   pathed : {links : List ℕ} → judgeAsked t tree node ≡ accepted → Path (netOf t) (rowsOf tree) node links
       → length links ≤ length list → Pathed t tree node list accepted (written links list) (length links)
   too-short : {links : List ℕ} → judgeAsked t tree node ≡ accepted → Path (netOf t) (rowsOf tree) node links
-      → length list < length links → Pathed t tree node list (refused 12 0) list 0
-  not-pathed : {number value : ℕ} → judgeAsked t tree node ≡ refused number value
-      → Pathed t tree node list (refused number value) list 0
+      → length list < length links → Pathed t tree node list (refused 12 (only 0)) list 0
+  not-pathed : {number : ℕ} {values : Values} → judgeAsked t tree node ≡ refused number values
+      → Pathed t tree node list (refused number values) list 0

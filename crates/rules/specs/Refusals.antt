@@ -10,23 +10,34 @@ use Rattle.rules.specs.declared.Change.{Change}
 use Rattle.rules.specs.declared.Profile.{Profile}
 
 infixr 40 _then_
--- accepted, or refused with a number of the table and the value that it carries, which is 0 where the table has none
+-- what a refusal carries: a value, and a second one that only 9 has. Where the table has none it is 0.
+pub record Values : Type 0 where
+  pub value : ℕ
+  pub second : ℕ
+
+abbrev pub both : ℕ → ℕ → Values
+both value second = record { value = value; second = second }
+
+abbrev pub only : ℕ → Values
+only value = both value 0
+
+-- accepted, or refused with a number of the table and the values that it carries
 pub data Verdict : Type 0 where
   accepted : Verdict
-  refused : (number value : ℕ) → Verdict
+  refused : (number : ℕ) (values : Values) → Verdict
 
 -- the smallest number is given: numbers are asked in rising order, and the first that applies decides
 abbrev pub _then_ : Verdict → Verdict → Verdict
 accepted then later = later
-refused number value then later = refused number value
+refused number values then later = refused number values
 
 -- a refusal that applies where the test passes, and carries 0
 abbrev pub when : Bool → ℕ → Verdict
-when test number = cond test (refused number 0) accepted
+when test number = cond test (refused number (only 0)) accepted
 
 -- a refusal that applies where one of the first n places passes the test, and carries the first such place
 abbrev pub whenOne : ℕ → (ℕ → Bool) → ℕ → Verdict
-whenOne n test number = cond (ltb (firstBelow test n) n) (refused number (firstBelow test n)) accepted
+whenOne n test number = cond (ltb (firstBelow test n) n) (refused number (only (firstBelow test n))) accepted
 
 -- 1: node count 0 or over 256
 abbrev pub wrongNodeCount : Table → Bool
@@ -78,12 +89,16 @@ unfoldable pub namesNoLink : Table → List Change → ℕ → Bool
 unfolding linkAt
 namesNoLink t batch row = leb (length (t .starts)) (linkAt batch row)
 
+-- the earliest row before a row that names the same link, or the row itself
+abbrev pub earliest : List Change → ℕ → ℕ
+earliest batch row = firstBelow (λ earlier. eqb (linkAt batch earlier) (linkAt batch row)) row
+
 -- 9: a row names a link of an earlier row
 unfoldable pub namesAgain : List Change → ℕ → Bool
 unfolding linkAt firstBelow
-namesAgain batch row = ltb (firstBelow (λ earlier. eqb (linkAt batch earlier) (linkAt batch row)) row) row
+namesAgain batch row = ltb (earliest batch row) row
 
--- 8 and 9 are judged together, row by row: the first bad row decides
+-- 8 and 9 are judged together, row by row: the first bad row decides. 9 carries the earliest row with the same link too.
 unfoldable pub firstBadRow : Table → List Change → ℕ
 unfolding namesNoLink namesAgain firstBelow
 firstBadRow t batch = firstBelow (λ row. namesNoLink t batch row || namesAgain batch row) (length batch)
@@ -92,7 +107,8 @@ unfoldable pub judgeRows : Table → List Change → Verdict
 unfolding firstBadRow
 judgeRows t batch =
     cond (ltb (firstBadRow t batch) (length batch))
-    (refused (cond (namesNoLink t batch (firstBadRow t batch)) 8 9) (firstBadRow t batch))
+    (refused (cond (namesNoLink t batch (firstBadRow t batch)) 8 9)
+    (both (firstBadRow t batch) (cond (namesNoLink t batch (firstBadRow t batch)) 0 (earliest batch (firstBadRow t batch)))))
     accepted
 
 -- 7: over 256 rows

@@ -1,14 +1,14 @@
 // What a job answers, what a batch holds and what numbers a profile has. What they mean stands in specs/.
 ghost use mathlib.Core.Path.{_≡_};
 ghost use Rattle.rules.specs.Columns.{narrow};
-ghost use Rattle.rules.specs.Answers.{numberOf, valueOf};
+ghost use Rattle.rules.specs.Answers.{numberOf, valueOf, secondOf};
 
 // The distance of an unreached node, and "no link" where a link number is expected.
 pub const UNREACHED: u32 = 16_777_215;
 
 pub const NO_LINK: u16 = 65_535;
 
-// Accepted, or one of the refusals of the scope's table, with the value that it carries.
+// Accepted, or one of the refusals of the scope's table, with the values that it carries.
 pub enum Answer {
     Accepted,
     WrongNodeCount,
@@ -21,9 +21,9 @@ pub enum Answer {
     // The smallest node that breaks a rule.
     TreeUnfit(u16),
     TooManyRows,
-    // The first bad row: it names no link, or a link of an earlier row.
+    // The first bad row: it names no link, or a link of an earlier row, and then the earliest such row.
     RowNamesNoLink(u16),
-    RowNamesLinkAgain(u16),
+    RowNamesLinkAgain(u16, u16),
     AskedNoNode,
     AskedUnreached,
     ListTooShort,
@@ -68,7 +68,7 @@ pub fn number(answer: Answer) -> u16
         Answer::TreeUnfit(_) => 6,
         Answer::TooManyRows => 7,
         Answer::RowNamesNoLink(_) => 8,
-        Answer::RowNamesLinkAgain(_) => 9,
+        Answer::RowNamesLinkAgain(_, _) => 9,
         Answer::AskedNoNode => 10,
         Answer::AskedUnreached => 11,
         Answer::ListTooShort => 12,
@@ -89,7 +89,28 @@ pub fn value(answer: Answer) -> u16
         Answer::TreeUnfit(node) => node,
         Answer::TooManyRows => 0,
         Answer::RowNamesNoLink(row) => row,
-        Answer::RowNamesLinkAgain(row) => row,
+        Answer::RowNamesLinkAgain(row, _) => row,
+        Answer::AskedNoNode => 0,
+        Answer::AskedUnreached => 0,
+        Answer::ListTooShort => 0,
+    }
+}
+
+// The second value that the refusal carries, and 0 where it carries none.
+pub fn second(answer: Answer) -> u16
+    ensures { λ r. ⌜ r ≡ secondOf answer ⌝ }
+{
+    match answer {
+        Answer::Accepted => 0,
+        Answer::WrongNodeCount => 0,
+        Answer::WrongRoot => 0,
+        Answer::WrongColumns => 0,
+        Answer::WrongEnds(_) => 0,
+        Answer::WrongOrder(_) => 0,
+        Answer::TreeUnfit(_) => 0,
+        Answer::TooManyRows => 0,
+        Answer::RowNamesNoLink(_) => 0,
+        Answer::RowNamesLinkAgain(_, earlier) => earlier,
         Answer::AskedNoNode => 0,
         Answer::AskedUnreached => 0,
         Answer::ListTooShort => 0,

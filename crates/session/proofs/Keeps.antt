@@ -95,7 +95,7 @@ pub network-keeps : {s : State} {k : Lists} → Holds s k → s .phase ≡ Unrea
     → Holds (networked v s nodes root .state) k
 network-keeps h p nodes root accepted e =
     linking refl (record { columns = columns-of h; few-links = omega arith; judged = e; no-rows = refl }) (lent-of h)
-network-keeps h p nodes root (refused number value) e = h
+network-keeps h p nodes root (refused number values) e = h
 
 -- ---- LINK
 
@@ -118,11 +118,11 @@ module _ (s : State) (k : Lists) (t : tableIn s k) (start end cost : ℕ) where
         ) e;
         no-rows = t .no-rows;
       }
-  link-stands (refused number value) e = t
+  link-stands (refused number values) e = t
 
 pub linked-phase : (v : Verdict) (s : State) → linked v s .state .phase ≡ s .phase
 linked-phase accepted s = refl
-linked-phase (refused number value) s = refl
+linked-phase (refused number values) s = refl
 
 pub link-keeps : {s : State} {k : Lists} → Holds s k → s .phase ≡ Linking → (start end cost : ℕ)
     → Holds (linked (linkVerdict s k start end cost) s .state) (linkLists (linkVerdict s k start end cost) s k start end cost)
@@ -183,7 +183,7 @@ module _ (s : State) (k : Lists) (t : treeIn s k) (w : lentIn k) (named cost : �
           entry-written (k .newcosts) (s .rows) cost (omega (arith, w .newcosts-long)),
         ) (then-second (when (ltb mostRows (length longer)) 7) _ e);
       }
-  change-stands (refused number value) e = t
+  change-stands (refused number values) e = t
 
   change-lent : (v : Verdict) → lentIn (changeLists v s k named cost)
   change-lent accepted = record {
@@ -191,11 +191,11 @@ module _ (s : State) (k : Lists) (t : treeIn s k) (w : lentIn k) (named cost : �
     newcosts-long = length-set (k .newcosts) (s .rows) cost ∙ w .newcosts-long;
     list-long = w .list-long;
   }
-  change-lent (refused number value) = w
+  change-lent (refused number values) = w
 
 changing-phase : (v : Verdict) (s : State) → changing v s .state .phase ≡ s .phase
 changing-phase accepted s = refl
-changing-phase (refused number value) s = refl
+changing-phase (refused number values) s = refl
 
 pub change-keeps : {r : State} {k : Lists} → r .phase ≡ Routing → treeIn r k → lentIn k → (named cost : ℕ)
     → Holds (changing (changeVerdict r k named cost) r .state) (changeLists (changeVerdict r k named cost) r k named cost)

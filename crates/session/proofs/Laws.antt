@@ -7,7 +7,7 @@ use lib.ListN.{length, take, drop}
 use lib.Seq.{length-take-le, take-at, drop-at}
 use borrow.Author.Tests.{le-ltb}
 use Rattle.rules.specs.Columns.{Table, Arrays, mostRows}
-use Rattle.rules.specs.Refusals.{Verdict, accepted, refused, judgeLinks, judgeBatch, judgeUpdate}
+use Rattle.rules.specs.Refusals.{Values, Verdict, accepted, refused, judgeLinks, judgeBatch, judgeUpdate}
 use Rattle.rules.specs.Answers.{told, numberIn, numberOf}
 use Rattle.rules.specs.Jobs.{Built, built, not-built, Updated, updated, not-updated}
 use Rattle.rules.specs.declared.Answer.{Answer}
@@ -23,10 +23,10 @@ use Rattle.session.specs.Holding.{TableStands, Lent, TreeStands}
 
 -- ---- a record that is judged, and refused or done
 
-module _ {s : State} (does : Verdict → Done) (refuses : (number value : ℕ) → does (refused number value) ≡ refusing s number) where
+module _ {s : State} (does : Verdict → Done) (refuses : (number : ℕ) (values : Values) → does (refused number values) ≡ refusing s number) where
   refusing-is : (v : Verdict) → (v ≡ accepted → ⊥) → refusing s (numberIn v) ≡ does v
   refusing-is accepted n = absurd (n refl)
-  refusing-is (refused number value) n = sym (refuses number value)
+  refusing-is (refused number values) n = sym (refuses number values)
 
   module _ (a : Answer) {number : ℕ} (is : number ≡ numberOf a) where
     pub is-refused : {r : Done} → r ≡ refusing s number → (number ≡ 0 → ⊥) → r ≡ does (told a)

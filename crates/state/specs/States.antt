@@ -5,7 +5,7 @@ use Prim.Native.Nat.{ℕ, _+_}
 use lib.Dec.{leb}
 use lib.ListN.{take}
 use Rattle.rules.specs.Columns.{Table, table, rowsOf, emptyTree}
-use Rattle.rules.specs.Refusals.{Verdict, accepted, refused}
+use Rattle.rules.specs.Refusals.{only, Verdict, accepted, refused}
 use Rattle.rules.specs.declared.Change.{Change}
 use Rattle.batch.specs.Rows.{rowsOfColumns}
 use Rattle.stream.specs.declared.Item.{Item}
@@ -46,7 +46,7 @@ refusing s number = record { state = s; out = Refused number }
 abbrev pub networked : Verdict → State → ℕ → ℕ → Done
 networked accepted s nodes root =
     record { state = record { phase = Linking; nodes = nodes; root = root; links = 0; rows = 0; tree = s .tree }; out = Nothing }
-networked (refused number value) s nodes root = refusing s number
+networked (refused number values) s nodes root = refusing s number
 
 -- LINK
 abbrev pub linked : Verdict → State → Done
@@ -55,7 +55,7 @@ linked accepted s =
       state = record { phase = s .phase; nodes = s .nodes; root = s .root; links = s .links + 1; rows = s .rows; tree = s .tree };
       out = Nothing;
     }
-linked (refused number value) s = refusing s number
+linked (refused number values) s = refusing s number
 
 -- CHANGE
 abbrev pub changing : Verdict → State → Done
@@ -64,7 +64,7 @@ changing accepted s =
       state = record { phase = s .phase; nodes = s .nodes; root = s .root; links = s .links; rows = s .rows + 1; tree = s .tree };
       out = Nothing;
     }
-changing (refused number value) s = refusing s number
+changing (refused number values) s = refusing s number
 
 -- the first record after the LINKs: a fresh tree, and all else as it was
 abbrev pub begun : State → Tree → State
@@ -87,11 +87,11 @@ abbrev pub verdictOf : Out → Verdict
 verdictOf Nothing = accepted
 verdictOf (Row node dist parent first) = accepted
 verdictOf (Changed count) = accepted
-verdictOf (Refused number) = refused number 0
+verdictOf (Refused number) = refused number (only 0)
 
 abbrev pub isRefused : Verdict → Bool
 isRefused accepted = false
-isRefused (refused number value) = true
+isRefused (refused number values) = true
 
 abbrev pub isRefusal : Out → Bool
 isRefusal out = isRefused (verdictOf out)

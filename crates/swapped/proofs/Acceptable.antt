@@ -13,7 +13,7 @@ use lib.Seq.{getD-append-add}
 use borrow.Author.Tests.{lt-ltb, le-ltb, ltb-false, leb-false, lt-leb, eq-eqb, ne-eqb}
 use Rattle.rules.specs.Tests.{firstBelow}
 use Rattle.rules.specs.Columns.{Table, Arrays, after, noLink, mostRows}
-use Rattle.rules.specs.Refusals.{Verdict, accepted, refused, _then_, when, linkAt, namesNoLink, namesAgain, firstBadRow, judgeLinks, judgeTree, judgeRows, judgeBatch, judgeUpdate}
+use Rattle.rules.specs.Refusals.{only, Verdict, accepted, refused, _then_, when, linkAt, namesNoLink, namesAgain, firstBadRow, judgeLinks, judgeTree, judgeRows, judgeBatch, judgeUpdate}
 use Rattle.rules.specs.Jobs.{Updated, updated, not-updated}
 use Rattle.rules.specs.declared.Change.{Change}
 use Rattle.rules.proofs.Logic.{First, first-of, first-is, or-l, or-r, or-false, T-false, false-T, true-false}
@@ -141,7 +141,7 @@ module _ (one two : List Change) where
 -- two acceptable batches as one
 module _ (t : Table) (old : Arrays) (one two : List Change) (a : Acceptable t old one) where
   -- over 256 rows are refused with 7, and no other number applies
-  pub too-many : mostRows < length one + length two → judgeBatch t old (one ++ two) ≡ refused 7 0
+  pub too-many : mostRows < length one + length two → judgeBatch t old (one ++ two) ≡ refused 7 (only 0)
   unfolding judgeBatch
   too-many l = rw (batch-tree t old one a, lt-ltb mostRows (length (one ++ two)) (omega (arith, length-append one two))) refl
 

@@ -1,10 +1,10 @@
 -- What a record's line asks of the list, and the two ways of a turn. Assumes nothing.
-use mathlib.Core.Path.{_≡_, refl, ap}
+use mathlib.Core.Path.{_≡_, refl, ap, _∙_}
 use mathlib.Core.Bool.{Bool, true, false, cond}
 use mathlib.Core.List.{List, []}
 use Prim.Native.Nat.{ℕ, _≤_, _<_}
 use native.Mathlib.Omega.{arith}
-use lib.Dec.{leb}
+use lib.Dec.{leb, eqb}
 use lib.ListN.{length, drop, length-append}
 use Rattle.rules.specs.Jobs.{written, changedBelow}
 use Rattle.rules.specs.Refusals.{Verdict, accepted, refused, judgeLinks}
@@ -14,7 +14,9 @@ use Rattle.tree.specs.Value.{arraysOf}
 use Rattle.stream.specs.declared.Item.{Item}
 use Rattle.stream.specs.declared.Read.{Read}
 use Rattle.stream.specs.Records.{readAt}
-use Rattle.state.specs.declared.Out.the-variants.{Row, Refused}
+use Rattle.earlier.specs.Earlier.{earlierOf}
+use Rattle.state.specs.declared.Out.{Out}
+use Rattle.state.specs.declared.Out.the-variants.{Nothing, Row, Changed, Refused}
 use Rattle.state.specs.declared.State.{State}
 use Rattle.state.specs.declared.Done.{Done}
 use Rattle.state.specs.States.{networked, linked, changing, goesOn}
@@ -22,22 +24,22 @@ use Rattle.session.specs.Holding.{Lists, Holds}
 use Rattle.session.specs.Steps.{linkVerdict, changeVerdict, Applied, Steps, out-of-order, unknown, cut, ended, network, link, change, apply, ask}
 use Rattle.session.proofs.Keeps.{lent-of}
 use Rattle.words.specs.Putting.{Put}
-use Rattle.lines.specs.Lines.{lineOf, refusalLine, entriesIn}
-use Rattle.turn.specs.Turns.{mostBytes, too-long, reads, Turned}
+use Rattle.lines.specs.Lines.{lineOf, refusalLine, againLine, entriesIn}
+use Rattle.turn.specs.Turns.{isAgain, mostBytes, too-long, reads, Turned}
 
 -- ---- a line tells at most the entries that the list has
 
 network-none : (v : Verdict) (s : State) (nodes root n : ℕ) → entriesIn (networked v s nodes root .out) ≤ n
 network-none accepted s nodes root n = omega arith
-network-none (refused number value) s nodes root n = omega arith
+network-none (refused number values) s nodes root n = omega arith
 
 link-none : (v : Verdict) (s : State) (n : ℕ) → entriesIn (linked v s .out) ≤ n
 link-none accepted s n = omega arith
-link-none (refused number value) s n = omega arith
+link-none (refused number values) s n = omega arith
 
 change-none : (v : Verdict) (s : State) (n : ℕ) → entriesIn (changing v s .out) ≤ n
 change-none accepted s n = omega arith
-change-none (refused number value) s n = omega arith
+change-none (refused number values) s n = omega arith
 
 ask-none : (past : Bool) (node dist parent first n : ℕ) → entriesIn (cond past (Refused 10) (Row node dist parent first)) ≤ n
 ask-none true node dist parent first n = omega arith
@@ -74,6 +76,18 @@ entries steps holds =
     let listed = entries-listed steps in
     (omega (arith, lent-of holds .list-long), listed)
 
+-- ---- the line is that of the earlier place where it tells one
+
+line-same : (out : Out) (list : List ℕ) (place : ℕ) {x y : ℕ} → (isAgain out ≡ true → x ≡ y) → lineOf out list place x ≡ lineOf out list place y
+line-same Nothing list place same = refl
+line-same (Row node dist parent first) list place same = refl
+line-same (Changed count) list place same = refl
+line-same (Refused number) list place {x} {y} same = at (eqb number 9) same
+  where
+    at : (again : Bool) → (again ≡ true → x ≡ y) → cond again (againLine place x) (refusalLine number place) ≡ cond again (againLine place y) (refusalLine number place)
+    at true same = ap (againLine place) (same refl)
+    at false same = refl
+
 -- ---- the two ways of a turn
 
 module _ {stream : List ℕ} {place : ℕ} {s : State} {k : Lists} {before : List ℕ} {at : ℕ} {text : List ℕ} {end : ℕ} where
@@ -81,13 +95,14 @@ module _ {stream : List ℕ} {place : ℕ} {s : State} {k : Lists} {before : Lis
       → Turned stream place s k before at (record { state = s; next = place; end = end; more = false }) k text
   turned-too-long long holds put = record { line = refusalLine 24 mostBytes; turns = too-long long; put = put; holds = holds }
 
-  pub turned-reads : {read : Read} {done : Done} {after : Lists} {more : Bool} → length stream ≤ mostBytes → read ≡ readAt stream place
+  pub turned-reads : {read : Read} {done : Done} {after : Lists} {more : Bool} {earlier : ℕ} → length stream ≤ mostBytes → read ≡ readAt stream place
       → Steps s k (read .item) done after → Holds (done .state) after → more ≡ goesOn (read .item) (done .out)
-      → Put before at (lineOf (done .out) (after .list) place) text end
+      → (isAgain (done .out) ≡ true → earlier ≡ earlierOf stream place (read .item))
+      → Put before at (lineOf (done .out) (after .list) place earlier) text end
       → Turned stream place s k before at (record { state = done .state; next = read .next; end = end; more = more }) after text
-  turned-reads {done = done} {after = after} few is steps holds goes put = record {
-    line = lineOf (done .out) (after .list) place;
+  turned-reads {read} {done = done} {after = after} {earlier = earlier} few is steps holds goes same put = record {
+    line = lineOf (done .out) (after .list) place (earlierOf stream place (readAt stream place .item));
     turns = rw (goes, is) (reads few (rw is at steps));
-    put = put;
+    put = rw (line-same (done .out) (after .list) place (λ q. same q ∙ ap (λ (r : Read). earlierOf stream place (r .item)) is)) at put;
     holds = holds;
   }

@@ -1,12 +1,16 @@
 // One turn of a stream: the item at a place is read, does what it does, and its line is put into a lent text.
+ghost use mathlib.Core.Path.{_≡_};
+ghost use mathlib.Core.Bool.{true};
 ghost use Prim.Native.Nat.{_+_, _≤_};
 ghost use lib.ListN.{length};
 ghost use Rattle.rules.specs.Lent.{lent, left};
 ghost use Rattle.session.specs.Holding.{listsAt, lentLists, leftLists, Holds};
 ghost use Rattle.lines.specs.Lines.{lineRoom};
-ghost use Rattle.turn.specs.Turns.{Turned};
+ghost use Rattle.earlier.specs.Earlier.{earlierOf};
+ghost use Rattle.turn.specs.Turns.{isAgain, Turned};
 use state::Out;
 use state::State;
+use stream::Item;
 
 // A stream for the program has no more bytes.
 const MOST_BYTES: usize = 32_768;
@@ -20,6 +24,33 @@ pub struct Turn {
     pub end: usize,
     // Whether there is a next turn: none at the end of the stream and none after a refusal.
     pub more: bool,
+}
+
+// A link named twice.
+fn is_again(out: Out) -> bool
+    ensures { λ r. ⌜ r ≡ isAgain out ⌝ }
+{
+    match out {
+        Out::Nothing => false,
+        Out::Row {
+            node: _,
+            dist: _,
+            parent: _,
+            first: _,
+        } => false,
+        Out::Changed { count: _ } => false,
+        Out::Refused { number } => number == 9,
+    }
+}
+
+// The place of the earlier record with the same link, which is looked for where it is told.
+fn earlier(stream: &[u8], place: usize, item: Item, out: Out) -> usize
+    ensures { λ r. ⌜ (isAgain out ≡ true → r ≡ earlierOf (lent stream) place item) ⌝ }
+{
+    if is_again(out) {
+        return earlier::earlier_of(stream, place, item);
+    }
+    0
 }
 
 // The turn behind the turns so far. A stream that is too long is told at once, whatever the place.
@@ -42,7 +73,7 @@ pub fn take_turn(
     let state = so_far.state;
     if stream.len() > MOST_BYTES {
         let refusal = Out::Refused { number: 24 };
-        let end = lines::put_line(text, at, refusal, list, MOST_BYTES);
+        let end = lines::put_line(text, at, refusal, list, MOST_BYTES, 0);
         return Turn {
             state: state,
             next: place,
@@ -55,7 +86,8 @@ pub fn take_turn(
     let done = session::step(state, item, starts, ends, costs, changed, newcosts, list);
     let after = done.state;
     let out = done.out;
-    let end = lines::put_line(text, at, out, list, place);
+    let before = earlier(stream, place, item, out);
+    let end = lines::put_line(text, at, out, list, place, before);
     Turn {
         state: after,
         next: read.next,

@@ -17,7 +17,7 @@ impl Program for Astray {
     }
 }
 
-const TURNS: [Astray; 24] = [
+const TURNS: [Astray; 26] = [
     Astray {
         name: "gives 22 for an unknown kind at the end",
         printed: |s| renumbered(s, 21, 22, |p| p + 1 == s.len()),
@@ -41,6 +41,8 @@ const TURNS: [Astray; 24] = [
         name: "tells how many records came before",
         printed: |s| replaced(s, |n, place| (n, read_until(s, place).len())),
     },
+    Astray { name: "tells the earlier row's number for its place", printed: |s| earlier_told(s, row_of) },
+    Astray { name: "tells the CHANGE before as the earlier one", printed: |s| earlier_told(s, change_before) },
     Astray { name: "refuses 32,768 bytes", printed: refuses_the_limit },
     Astray { name: "prints before it refuses the length", printed: prints_before_24 },
     Astray { name: "shows rows before APPLY", printed: shows_rows },
@@ -109,8 +111,12 @@ fn replaced(stream: &[u8], turn: impl Fn(usize, usize) -> (usize, usize)) -> Str
     let printed = lines(stream);
     match refusal(&printed) {
         Some((before, number, place)) if number != 24 => {
+            let (due, rest) = (number, &printed[before.len()..].trim_end());
             let (number, place) = turn(number, place);
-            format!("{before}R {number} {place}\n")
+            // The earlier place stays where the refusal does.
+            let earlier =
+                rest.split(' ').nth(3).filter(|_| number == due).map_or(String::new(), |word| format!(" {word}"));
+            format!("{before}R {number} {place}{earlier}\n")
         }
         _ => printed,
     }
@@ -131,6 +137,29 @@ fn passing_over(stream: &[u8], due: usize) -> String {
         }
         _ => printed,
     }
+}
+
+// Another number for the earlier record's place.
+fn earlier_told(stream: &[u8], turn: fn(&[u8], usize, usize) -> usize) -> String {
+    let printed = lines(stream);
+    let Some((before, 9, place)) = refusal(&printed) else { return printed };
+    let earlier = printed.trim_end().rsplit(' ').next().and_then(|word| word.parse().ok()).expect("a place");
+    format!("{before}R 9 {place} {}\n", turn(stream, place, earlier))
+}
+
+// The CHANGEs behind the last APPLY before a place.
+fn rows_until(stream: &[u8], place: usize) -> Vec<usize> {
+    let before = read_until(stream, place);
+    let from = before.iter().rposition(|record| matches!(record.1, Record::Apply)).map_or(0, |apply| apply + 1);
+    before[from..].iter().filter(|record| matches!(record.1, Record::Change { .. })).map(|record| record.0).collect()
+}
+
+fn row_of(stream: &[u8], place: usize, earlier: usize) -> usize {
+    rows_until(stream, place).iter().position(|row| *row == earlier).expect("a row")
+}
+
+fn change_before(stream: &[u8], place: usize, _earlier: usize) -> usize {
+    *rows_until(stream, place).last().expect("a row")
 }
 
 // ---- the turns that need more
@@ -177,10 +206,11 @@ fn keeps_rows(stream: &[u8]) -> String {
     for (place, record) in all_read(stream) {
         let Record::Change { link, .. } = record else { continue };
         let before = lines(&stream[..place]);
-        if named.contains(&link) && refusal(&before).is_none() && stream.len() <= MOST_BYTES {
-            return format!("{before}R 9 {place}\n");
+        let earlier = named.iter().find(|row: &&(usize, u16)| row.1 == link);
+        if let (Some((earlier, _)), None, true) = (earlier, refusal(&before), stream.len() <= MOST_BYTES) {
+            return format!("{before}R 9 {place} {earlier}\n");
         }
-        named.push(link);
+        named.push((place, link));
     }
     lines(stream)
 }

@@ -85,14 +85,14 @@ struct Checker<'a> {
 }
 
 impl Checker<'_> {
-    // The numbers agree: answered are the number, the value and the count.
+    // The numbers agree: answered are the number, the values and the count.
     fn told(&mut self, job: usize, got: Answer, (told, count): (Told, usize)) -> Result<(), String> {
         let due = (told.0, told.1, count);
         self.tally[job][due.0 as usize] += 1;
         if got == due {
             return Ok(());
         }
-        Err(format!("{}: (number, value, count) {got:?}, due is {due:?}", JOBS[job].0))
+        Err(format!("{}: (number, values, count) {got:?}, due is {due:?}", JOBS[job].0))
     }
 
     fn judged(&mut self, job: usize, got: Told, due: Told) -> Result<(), String> {

@@ -54,10 +54,10 @@ pub fn cases() -> Vec<Case> {
     let p3 = rules::build(&Table { costs: &[2, 7, 4, 5, 7, 2, 1, 1], ..pier }).1;
     hold("P3", (p3.parent[2], p3.first[2]) == (1, 1));
     let p11 = rules::update(&pier, &p1, &[(3, 1), (0, 1), (3, 1)], 4);
-    hold("P11", p11.told == (9, 2) && p11.tree == p1 && p11.costs == COSTS && p11.changed.is_empty());
+    hold("P11", p11.told == (9, [2, 0]) && p11.tree == p1 && p11.costs == COSTS && p11.changed.is_empty());
     let alone = Table { nodes: 1, root: 0, starts: &[], ends: &[], costs: &[] };
     let p12 = rules::build(&alone).1;
-    hold("P12", p12.dist[0] == 0 && rules::path(&alone, &p12, 0, 0) == ((0, 0), vec![]));
+    hold("P12", p12.dist[0] == 0 && rules::path(&alone, &p12, 0, 0) == ((0, [0, 0]), vec![]));
 
     let asked = vec![Ask { node: 0, list: 0 }];
     let mut cases = vec![fresh.clone(), Case { nodes: 1, asks: asked, ..Case::default() }];

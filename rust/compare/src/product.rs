@@ -1,11 +1,11 @@
 // The product, through the C functions, and through the safe interface that stands on them.
-use reckon::rules::{Table, Told, Tree};
+use reckon::rules::{Table, Told, Tree, ACCEPTED};
 use reckon::stream::Record;
 use routes::ffi::{self, Batch, Net, Rows, RowsMut};
 use routes::{Change, Network, Records, Refusal};
 
-// The number, the value and the count.
-pub type Answer = (u16, u16, usize);
+// The number, the two values and the count.
+pub type Answer = (u16, [u16; 2], usize);
 
 pub trait Product {
     fn judge_links(&self, t: &Table) -> Told;
@@ -34,27 +34,27 @@ pub fn rows_mut(tree: &mut Tree) -> RowsMut<'_> {
 impl Product for Archive {
     fn judge_links(&self, t: &Table) -> Told {
         let told = ffi::judge_links(lent(t), t.costs);
-        (told.number, told.value)
+        (told.number, told.values)
     }
 
     fn judge_tree(&self, t: &Table, tree: &Tree) -> Told {
         let told = ffi::judge_tree(lent(t), t.costs, rows(tree));
-        (told.number, told.value)
+        (told.number, told.values)
     }
 
     fn build(&self, t: &Table, tree: RowsMut) -> Told {
         let told = ffi::build(lent(t), t.costs, tree);
-        (told.number, told.value)
+        (told.number, told.values)
     }
 
     fn update(&self, t: &Table, costs: &mut [u16], batch: Batch, tree: RowsMut, list: &mut [u16]) -> Answer {
         let told = ffi::update(lent(t), costs, batch, tree, list);
-        (told.number, told.value, told.count)
+        (told.number, told.values, told.count)
     }
 
     fn path(&self, t: &Table, tree: &Tree, asked: usize, list: &mut [u16]) -> Answer {
         let told = ffi::path(lent(t), t.costs, rows(tree), asked, list);
-        (told.number, told.value, told.count)
+        (told.number, told.values, told.count)
     }
 }
 
@@ -76,8 +76,8 @@ fn write(tree: RowsMut, made: &routes::Tree) {
 
 fn told<T>(answer: Result<T, Refusal>) -> (Told, Option<T>) {
     match answer {
-        Ok(good) => ((0, 0), Some(good)),
-        Err(refusal) => ((refusal.number(), refusal.value()), None),
+        Ok(good) => (ACCEPTED, Some(good)),
+        Err(refusal) => ((refusal.number(), [refusal.value(), refusal.second()]), None),
     }
 }
 
@@ -124,7 +124,7 @@ impl Product for Safe {
 }
 
 // What the reader hands back: the refusal's number, the kind, three numbers and the next place.
-pub type Reading = (u16, u8, [u16; 3], usize);
+pub type Reading = (u16, u8, [u32; 3], usize);
 
 // The archive's reader.
 pub fn reading(stream: &[u8], place: usize) -> Reading {

@@ -12,11 +12,11 @@ fn due(stream: &[u8], place: usize) -> Reading {
     }
     match read(stream, place) {
         Err(number) => (number, 0, [0; 3], place),
-        Ok((Record::Network { nodes, root }, next)) => (0, 1, [nodes, root, 0], next),
-        Ok((Record::Link { start, end, cost }, next)) => (0, 2, [start, end, cost], next),
-        Ok((Record::Change { link, cost }, next)) => (0, 3, [link, cost, 0], next),
+        Ok((Record::Network { nodes, root }, next)) => (0, 1, [nodes, root, 0].map(u32::from), next),
+        Ok((Record::Link { start, end, cost }, next)) => (0, 2, [start, end, cost].map(u32::from), next),
+        Ok((Record::Change { link, cost }, next)) => (0, 3, [link, cost, 0].map(u32::from), next),
         Ok((Record::Apply, next)) => (0, 4, [0; 3], next),
-        Ok((Record::Ask { node }, next)) => (0, 5, [node, 0, 0], next),
+        Ok((Record::Ask { node }, next)) => (0, 5, [node, 0, 0].map(u32::from), next),
     }
 }
 
@@ -71,7 +71,7 @@ pub fn compare(from: u64) {
 const WRONG: [(&str, Reader); 8] = [
     ("reads the low byte first", |stream, place| {
         let (number, kind, numbers, next) = product::reading(stream, place);
-        (number, kind, numbers.map(u16::swap_bytes), next)
+        (number, kind, numbers.map(|number| u32::from((number as u16).swap_bytes())), next)
     }),
     ("takes a body that is one byte short", |stream, place| match product::reading(stream, place) {
         (22, ..) => product::reading(&[stream, &[0]].concat(), place),

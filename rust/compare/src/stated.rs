@@ -50,6 +50,7 @@ fn sizes() -> Vec<(&'static str, Vec<Record>, &'static str)> {
         ("256 CHANGEs", with(rows(256), [Record::Apply, ask(1)]), "A 1 1\nN 1 5 0 0\n"),
         ("256 CHANGEs, and one of no link", with(rows(256), [change(300, 5)]), "R 7 3385\n"),
         ("256 CHANGEs, and one again", with(rows(256), [change(0, 5)]), "R 7 3385\n"),
+        ("255 CHANGEs, and the first again", with(rows(255), [change(0, 5)]), "R 9 3380 2105\n"),
         ("257 CHANGEs", with(rows(257), [Record::Apply]), "R 7 3385\n"),
         (
             "257 CHANGEs, an APPLY among them",

@@ -20,7 +20,7 @@ enum Turn {
     Path(fn(&Table, &Tree, usize, &mut [u16]) -> Answer),
 }
 
-static TURNS: [Wrong; 14] = [
+static TURNS: [Wrong; 16] = [
     Wrong { name: "rebuilds from nothing", turn: Turn::Update(rebuilds) },
     Wrong { name: "raises, then lowers", turn: Turn::Update(raises_then_lowers) },
     Wrong { name: "tells a link by its end nodes", turn: Turn::Update(tells_by_ends) },
@@ -32,6 +32,8 @@ static TURNS: [Wrong; 14] = [
     Wrong { name: "writes costs though it refuses", turn: Turn::Update(writes_though_refused) },
     Wrong { name: "writes behind the list's count", turn: Turn::Update(writes_behind_count) },
     Wrong { name: "gives 9 before 8", turn: Turn::Update(nine_before_eight) },
+    Wrong { name: "tells the row before as the earlier one", turn: Turn::Update(row_before) },
+    Wrong { name: "tells a second value with 8", turn: Turn::Update(second_with_eight) },
     Wrong { name: "sums in 32 bits", turn: Turn::JudgeTree(sums_in_32_bits) },
     Wrong { name: "gives 5 before 4", turn: Turn::JudgeLinks(five_before_four) },
     Wrong { name: "tells a path from the asked node upward", turn: Turn::Path(upward) },
@@ -112,7 +114,7 @@ impl Update<'_> {
     fn listing(&mut self, test: impl Fn(&Tree, &Tree, usize) -> bool) -> Answer {
         let nodes: Vec<u16> = (0..NODES).filter(|v| test(&self.old, &self.tree, *v)).map(|v| v as u16).collect();
         self.list[..nodes.len()].copy_from_slice(&nodes);
-        (0, 0, nodes.len())
+        (0, [0, 0], nodes.len())
     }
 
     fn listing_changed(&mut self) -> Answer {
@@ -176,14 +178,14 @@ fn first_row_alone(u: &mut Update) -> Answer {
 
 fn makes_up_the_count(u: &mut Update) -> Answer {
     match u.right() {
-        (0, ..) => (0, 0, 1),
+        (0, ..) => (0, [0, 0], 1),
         refused => refused,
     }
 }
 
 fn refuses(u: &mut Update) -> Answer {
     match u.right() {
-        (0, ..) => (6, 0, 0),
+        (0, ..) => (6, [0, 0], 0),
         refused => refused,
     }
 }
@@ -209,8 +211,26 @@ fn writes_behind_count(u: &mut Update) -> Answer {
 fn nine_before_eight(u: &mut Update) -> Answer {
     let (told, links) = (u.right(), u.batch.links);
     match (0..u.rows()).find(|row| links[..*row].contains(&links[*row])) {
-        Some(row) if told.0 == 8 => (9, row as u16, 0),
+        Some(row) if told.0 == 8 => (9, [row as u16, first_naming(links, links[row]) as u16], 0),
         _ => told,
+    }
+}
+
+fn first_naming(links: &[u16], link: u16) -> usize {
+    links.iter().position(|named| *named == link).unwrap_or(0)
+}
+
+fn row_before(u: &mut Update) -> Answer {
+    match u.right() {
+        (9, [row, _], count) => (9, [row, row - 1], count),
+        told => told,
+    }
+}
+
+fn second_with_eight(u: &mut Update) -> Answer {
+    match u.right() {
+        (8, [row, _], count) => (8, [row, row], count),
+        told => told,
     }
 }
 
@@ -219,14 +239,14 @@ fn nine_before_eight(u: &mut Update) -> Answer {
 fn five_before_four(t: &Table) -> Told {
     let told = Archive.judge_links(t);
     match (1..t.starts.len()).find(|k| t.starts[*k] < t.starts[*k - 1]) {
-        Some(k) if told.0 == 4 => (5, k as u16),
+        Some(k) if told.0 == 4 => (5, [k as u16, 0]),
         _ => told,
     }
 }
 
 fn sums_in_32_bits(t: &Table, tree: &Tree) -> Told {
     match Archive.judge_tree(t, tree) {
-        (6, _) => (0..NODES).find(|v| breaks_in_32_bits(t, tree, *v)).map_or((0, 0), |v| (6, v as u16)),
+        (6, _) => (0..NODES).find(|v| breaks_in_32_bits(t, tree, *v)).map_or((0, [0, 0]), |v| (6, [v as u16, 0])),
         told => told,
     }
 }

@@ -23,9 +23,9 @@ pub struct Tree {
 
 pub const EMPTY: Tree = Tree { dist: [UNREACHED; NODES], parent: [NONE; NODES], first: [NONE; NODES] };
 
-// A number of the table, 0 for acceptance, and the value that it carries.
-pub type Told = (u16, u16);
-pub const ACCEPTED: Told = (0, 0);
+// A number of the table, 0 for acceptance, and the two values that it carries.
+pub type Told = (u16, [u16; 2]);
+pub const ACCEPTED: Told = (0, [0, 0]);
 
 impl Table<'_> {
     fn links(&self) -> usize {
@@ -52,22 +52,22 @@ impl Table<'_> {
 
 pub fn judge_links(t: &Table) -> Told {
     if t.nodes == 0 || t.nodes > 256 {
-        return (1, 0);
+        return (1, [0, 0]);
     }
     if t.root >= t.nodes {
-        return (2, 0);
+        return (2, [0, 0]);
     }
     if t.starts.len() != t.ends.len() || t.starts.len() != t.costs.len() || t.starts.len() > 4_096 {
-        return (3, 0);
+        return (3, [0, 0]);
     }
     for k in 0..t.links() {
         if t.start(k) >= t.nodes || t.end(k) >= t.nodes || t.start(k) == t.end(k) {
-            return (4, k as u16);
+            return (4, [k as u16, 0]);
         }
     }
     for k in 1..t.links() {
         if t.starts[k] < t.starts[k - 1] {
-            return (5, k as u16);
+            return (5, [k as u16, 0]);
         }
     }
     ACCEPTED
@@ -101,7 +101,7 @@ pub fn judge_tree(t: &Table, tree: &Tree) -> Told {
         return told;
     }
     match (0..NODES).find(|node| breaks(t, tree, *node)) {
-        Some(node) => (6, node as u16),
+        Some(node) => (6, [node as u16, 0]),
         None => ACCEPTED,
     }
 }
@@ -173,18 +173,18 @@ fn judge_update(t: &Table, tree: &Tree, batch: &[(u16, u16)], list: usize) -> To
         return told;
     }
     if batch.len() > 256 {
-        return (7, 0);
+        return (7, [0, 0]);
     }
     for (row, (link, _)) in batch.iter().enumerate() {
         if *link as usize >= t.links() {
-            return (8, row as u16);
+            return (8, [row as u16, 0]);
         }
-        if batch[..row].iter().any(|earlier| earlier.0 == *link) {
-            return (9, row as u16);
+        if let Some(earlier) = batch[..row].iter().position(|earlier| earlier.0 == *link) {
+            return (9, [row as u16, earlier as u16]);
         }
     }
     if list < t.nodes {
-        return (12, 0);
+        return (12, [0, 0]);
     }
     ACCEPTED
 }
@@ -210,10 +210,10 @@ pub fn path(t: &Table, tree: &Tree, asked: usize, list: usize) -> (Told, Vec<u16
         return (told, Vec::new());
     }
     if asked >= t.nodes {
-        return ((10, 0), Vec::new());
+        return ((10, [0, 0]), Vec::new());
     }
     if tree.dist[asked] == UNREACHED {
-        return ((11, 0), Vec::new());
+        return ((11, [0, 0]), Vec::new());
     }
     let mut links = Vec::new();
     let mut node = asked;
@@ -222,7 +222,7 @@ pub fn path(t: &Table, tree: &Tree, asked: usize, list: usize) -> (Told, Vec<u16
         node = t.start(tree.parent[node] as usize);
     }
     if list < links.len() {
-        return ((12, 0), Vec::new());
+        return ((12, [0, 0]), Vec::new());
     }
     (ACCEPTED, links)
 }

@@ -205,15 +205,28 @@ pub fn said(stream: &[u8]) -> Vec<Said> {
         return vec![refused(24, MOST_BYTES)];
     }
     let (mut all, mut run, mut place) = (Vec::new(), Run::default(), 0);
+    // The CHANGEs since the last APPLY, each with its place.
+    let mut rows: Vec<(usize, u16)> = Vec::new();
     while place < stream.len() {
-        let taken = read(stream, place).and_then(|(record, next)| run.take(record).map(|line| (line, next)));
-        match taken {
-            Ok((line, next)) => {
+        let record = read(stream, place);
+        let taken = record.and_then(|(record, next)| run.take(record).map(|line| (line, next)));
+        match (taken, record) {
+            (Ok((line, next)), Ok((record, _))) => {
                 all.extend(line.map(|line| Said { place, line }));
+                match record {
+                    Record::Change { link, .. } => rows.push((place, link)),
+                    Record::Apply => rows.clear(),
+                    _ => {}
+                }
                 place = next;
             }
-            Err(number) => {
-                all.push(refused(number, place));
+            (Err(9), Ok((Record::Change { link, .. }, _))) => {
+                let earlier = rows.iter().find(|row| row.1 == link).expect("an earlier row").0;
+                all.push(Said { place, line: format!("R 9 {place} {earlier}\n") });
+                return all;
+            }
+            (taken, _) => {
+                all.push(refused(taken.expect_err("a refusal"), place));
                 return all;
             }
         }

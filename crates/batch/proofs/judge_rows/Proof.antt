@@ -49,8 +49,8 @@ shared-slice-read-link c = row (c .before) .has-link
 cast-if1 : tie.Need-cast-if1 Inv-loop μ-loop
 cast-if1 c = omega (arith, c .shared-slice-known3 .given (c .before .before .loop .i))
 
-cast-t14 : tie.Need-cast-t14 Inv-loop μ-loop
-cast-t14 c = search needs
+cast-t15 : tie.Need-cast-t15 Inv-loop μ-loop
+cast-t15 c = search needs
 
 returns : tie.Need-returns Inv-loop μ-loop
 returns c = no-link (c .before .before .before .loop .inv) (in-batch (c .before .before)) (c .if1 .taken)
@@ -64,8 +64,11 @@ slice-aggregate-earliest-row-2 c = sym (c .before .before .before .before .befor
 earliest-row-requires : tie.Need-earliest-row-requires Inv-loop μ-loop
 earliest-row-requires c κs = c .before .before .before .before .before .loop .inv .threaded
 
-cast-t19 : tie.Need-cast-t19 Inv-loop μ-loop
-cast-t19 c = search needs
+cast-t20 : tie.Need-cast-t20 Inv-loop μ-loop
+cast-t20 c = search needs
+
+cast-t21 : tie.Need-cast-t21 Inv-loop μ-loop
+cast-t21 c = search needs
 
 returns-2 : tie.Need-returns-2 Inv-loop μ-loop
 returns-2 c = named-again (c .before .before .before .before .before .before .before .loop .inv) (in-batch (c .before .before .before .before .before .before)) (c .before .before .before .before .if1 .left) (c .before .earliest-row .ensures) (c .if2 .taken)
@@ -98,12 +101,13 @@ judge-rows-spec =
     mul-link
     shared-slice-read-link
     cast-if1
-    cast-t14
+    cast-t15
     returns
     slice-aggregate-earliest-row
     slice-aggregate-earliest-row-2
     earliest-row-requires
-    cast-t19
+    cast-t20
+    cast-t21
     returns-2
     add-row-requires
     loop-less

@@ -8,17 +8,41 @@ use Rattle.plain.proofs.take_apart.Tie as tie
 enum-known-item : tie.Need-enum-known-item
 enum-known-item c = search needs
 
+cast-t11 : tie.Need-cast-t11
+cast-t11 c = search needs
+
+cast-t12 : tie.Need-cast-t12
+cast-t12 c = search needs
+
 enum-known-item-2 : tie.Need-enum-known-item-2
 enum-known-item-2 c = search needs
 
+cast-t14 : tie.Need-cast-t14
+cast-t14 c = search needs
+
+cast-t15 : tie.Need-cast-t15
+cast-t15 c = search needs
+
+cast-t16 : tie.Need-cast-t16
+cast-t16 c = search needs
+
 enum-known-item-3 : tie.Need-enum-known-item-3
 enum-known-item-3 c = search needs
+
+cast-t18 : tie.Need-cast-t18
+cast-t18 c = search needs
+
+cast-t19 : tie.Need-cast-t19
+cast-t19 c = search needs
 
 enum-told : tie.Need-enum-told
 enum-told c = search needs
 
 enum-known-item-4 : tie.Need-enum-known-item-4
 enum-known-item-4 c = search needs
+
+cast-t22 : tie.Need-cast-t22
+cast-t22 c = search needs
 
 enum-told-2 : tie.Need-enum-told-2
 enum-told-2 c = search needs
@@ -58,10 +82,18 @@ take-apart-spec =
     tie.close
     (tie.spec
     enum-known-item
+    cast-t11
+    cast-t12
     enum-known-item-2
+    cast-t14
+    cast-t15
+    cast-t16
     enum-known-item-3
+    cast-t18
+    cast-t19
     enum-told
     enum-known-item-4
+    cast-t22
     enum-told-2
     enum-told-3
     enum-told-4

@@ -23,11 +23,14 @@ read-at-requires c κs = search needs
 step-requires : tie.Need-step-requires
 step-requires c κs = search needs
 
+earlier-requires : tie.Need-earlier-requires
+earlier-requires c κs = search needs
+
 put-line-requires-2 : tie.Need-put-line-requires-2
 put-line-requires-2 c κs =
-    let step = c .before .before .before .before .before .before .before .before .before .before .before .before .before .before .before .step .ensures in
+    let step = c .before .before .before .before .before .before .before .before .before .before .before .before .before .before .before .before .step .ensures in
     let few = entries (step .0) (step .1) in
-    (c .before .before .before .before .before .before .before .before .before .before .before .before .before .before .before .before .before .before .before .before .before .before .before .before .before .before .before .before .before .before .before .before .before .pre .1, few .0, few .1)
+    (c .before .before .before .before .before .before .before .before .before .before .before .before .before .before .before .before .before .before .before .before .before .before .before .before .before .before .before .before .before .before .before .before .before .before .pre .1, few .0, few .1)
 
 goes-on-requires : tie.Need-goes-on-requires
 goes-on-requires c κs = search needs
@@ -55,8 +58,8 @@ same-length-9 c = search needs
 
 returns-2 : tie.Need-returns-2
 returns-2 c =
-    let step = c .before .before .before .before .before .before .before .before .before .before .before .before .before .before .before .before .before .before .before .step .ensures in
-    turned-reads (c .before .before .before .before .before .before .before .before .before .before .before .before .before .before .before .before .before .before .before .before .before .before .before .before .before .before .before .if1 .left) (given-is (c .before .before .before .before .before .before .before .before .before .before .before .before .before .before .before .before .before .before .before .before .before .before .before .before .before .before .read-at .ensures)) (step .0) (step .1) (c .goes-on .ensures) (c .before .before .before .put-line2 .ensures)
+    let step = c .before .before .before .before .before .before .before .before .before .before .before .before .before .before .before .before .before .before .before .before .step .ensures in
+    turned-reads (c .before .before .before .before .before .before .before .before .before .before .before .before .before .before .before .before .before .before .before .before .before .before .before .before .before .before .before .before .if1 .left) (given-is (c .before .before .before .before .before .before .before .before .before .before .before .before .before .before .before .before .before .before .before .before .before .before .before .before .before .before .before .read-at .ensures)) (step .0) (step .1) (c .goes-on .ensures) (c .before .before .before .before .before .before .earlier .ensures) (c .before .before .before .put-line2 .ensures)
 
 pub take-turn-spec : {M : Type 1} → statement M
 take-turn-spec =
@@ -68,6 +71,7 @@ take-turn-spec =
     returns
     read-at-requires
     step-requires
+    earlier-requires
     put-line-requires-2
     goes-on-requires
     same-length-3

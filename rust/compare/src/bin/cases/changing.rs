@@ -1,4 +1,4 @@
-// Building, updating and asking for paths: a line for each call, with what the call is, the refusal's number, the value
+// Building, updating and asking for paths: a line for each call, with what the call is, the refusal's number, the two values
 // that it carries, for an update and a path the count, and then all that the call may write: the rows of the tree that
 // aren't empty (node:distance,parent,first), the cost column and the list, lent part and all.
 use crate::pier::{chain, net, p1_with, pier, with_rows, COSTS, ENDS, STARTS};
@@ -71,7 +71,7 @@ impl Saying {
 }
 
 fn judged(reply: Reply) -> String {
-    format!(" {} {}", reply.number, reply.value)
+    format!(" {} {} {}", reply.number, reply.values[0], reply.values[1])
 }
 
 fn counted(reply: Reply) -> String {

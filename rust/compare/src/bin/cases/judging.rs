@@ -1,4 +1,4 @@
-// Judging: a line for each case, with what the case is, the refusal's number and the value that it carries.
+// Judging: a line for each case, with what the case is, the refusal's number and the two values that it carries.
 use crate::pier::{chain, net, p1_with, pier, with_rows, Row, COSTS, ENDS, STARTS};
 use routes::ffi::Reply;
 use routes::{lent, Network, Tree, NO_LINK, UNREACHED};
@@ -6,7 +6,7 @@ use routes::{lent, Network, Tree, NO_LINK, UNREACHED};
 const TOP: u32 = u32::MAX;
 
 fn say(name: &str, reply: Reply) {
-    println!("{name} {} {}", reply.number, reply.value);
+    println!("{name} {} {} {}", reply.number, reply.values[0], reply.values[1]);
 }
 
 fn table(name: &str, table: Network) {
