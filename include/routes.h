@@ -65,7 +65,8 @@ enum routes_kind {
 
 /* The table of links, which every function but routes_read takes first: the node count, the root, and for each link its
  * start, its end and its cost, a column each. A link's number is its place. Starts never fall; a cost of 0 means that the
- * link is down. */
+ * link is down. Each direction is a link of its own. A link is usable when its cost isn't 0 and some link from its end to
+ * its start has a cost that isn't 0; routes use no others. */
 
 /* Judges a table of links: refusals 1 to 5. Writes the values alone. */
 uint16_t routes_judge_links(

@@ -7,37 +7,38 @@ At every batch the distances are found from nothing, by relaxing every link unti
 parents, first links, changed nodes and refusals are gone through as they are written, one node and one link at a time.
 Judging a table and a tree is taken from tests/judging.py.
 """
-from judging import MARK, NONE, PIER, TOP, judge_links, judge_tree, rows
+from judging import MARK, NONE, PIER, TOP, chain_links, judge_links, judge_tree, rows, usable_links
 
 EMPTY = (MARK, NONE, NONE)
 ALL_EMPTY = [EMPTY] * 256
 
 
-def least_sums(nodes, root, starts, ends, costs):
+def least_sums(root, starts, ends, costs, usable):
     """A distance for each reached node."""
     dist = {root: 0}
     moved = True
     while moved:
         moved = False
-        for s, e, cost in zip(starts, ends, costs):
-            if cost != 0 and s in dist and (e not in dist or dist[s] + cost < dist[e]):
+        for k in usable:
+            s, e, cost = starts[k], ends[k], costs[k]
+            if s in dist and (e not in dist or dist[s] + cost < dist[e]):
                 dist[e] = dist[s] + cost
                 moved = True
     return dist
 
 
-def hung(nodes, root, starts, ends, costs, old_parents):
+def hung(root, starts, ends, costs, old_parents):
     """The tree in which a node keeps its old parent link where that is tight, and else takes its first tight link."""
-    dist = least_sums(nodes, root, starts, ends, costs)
+    usable = usable_links(starts, ends, costs)
+    dist = least_sums(root, starts, ends, costs, usable)
 
     def is_tight(k, v):
-        return (k < len(starts) and ends[k] == v and costs[k] != 0 and starts[k] in dist
-                and dist[starts[k]] + costs[k] == dist[v])
+        return ends[k] == v and starts[k] in dist and dist[starts[k]] + costs[k] == dist[v]
 
     parent = {}
     for v in dist:
         if v != root:
-            tight = [k for k in range(len(starts)) if is_tight(k, v)]
+            tight = [k for k in usable if is_tight(k, v)]
             parent[v] = old_parents[v] if old_parents[v] in tight else min(tight)
 
     def trail(v):
@@ -58,7 +59,7 @@ def build(nodes, root, starts, ends, costs):
     number, value = judge_links(nodes, root, starts, ends, costs)
     if number:
         return (number, value), list(ALL_EMPTY)
-    return (0, 0), hung(nodes, root, starts, ends, costs, [NONE] * 256)
+    return (0, 0), hung(root, starts, ends, costs, [NONE] * 256)
 
 
 def judge_rows(links, batch):
@@ -94,7 +95,7 @@ def update(tree, nodes, root, starts, ends, costs, batch, lent, room):
     if told[0]:
         return told, 0, tree, costs, lent
     costs = [dict(batch).get(k, cost) for k, cost in enumerate(costs)]
-    after = hung(nodes, root, starts, ends, costs, [row[1] for row in tree])
+    after = hung(root, starts, ends, costs, [row[1] for row in tree])
     changed = [v for v in range(256) if tree[v] != after[v]]
     return told, len(changed), after, costs, with_front(changed, lent)
 
@@ -229,7 +230,7 @@ def quiet_batches():
     from_p1("one unchanged cost", [3], [2], 6)
     from_p1("all costs unchanged", [7, 6, 5, 4, 3, 2, 1, 0], COSTS[::-1], 6)
     from_p1("into the root cheaper", [2, 4], [1, 1], 6)
-    from_p1("into the root down", [4, 2], [0, 0], 6)
+    from_p1("into the root dear", [4, 2], [65_535, 65_535], 6)
 
 
 def apart_and_together():
@@ -249,7 +250,7 @@ def apart_and_together():
 
 
 def parallel():
-    run = Run(4, 0, [0, 0, 1, 1, 2], [1, 1, 2, 2, 3], [6, 5, 1, 1, 1]).fresh("parallel")
+    run = Run(4, 0, [0, 0, 1, 1, 1, 2, 2, 3], [1, 1, 2, 2, 0, 3, 1, 2], [6, 5, 1, 1, 1, 1, 1, 1]).fresh("parallel")
     run.step("the first as cheap", [0], [5], 6)
     run.fresh("built then", keep=False)
     run.step("the first raised", [0], [9], 6)
@@ -263,31 +264,82 @@ def parallel():
 
 
 def fork():
-    run = Run(5, 0, [0, 0, 0, 1, 2, 3], [1, 2, 3, 4, 4, 4], [2] * 6).fresh("fork")
+    run = Run(5, 0, [0, 0, 0, 1, 1, 2, 2, 3, 3, 4, 4, 4], [1, 2, 3, 4, 0, 4, 0, 4, 0, 1, 2, 3], [2] * 12).fresh("fork")
     run.step("link 3 raised", [3], [3], 5)
     run.step("link 3 back", [3], [2], 5)
-    run.step("link 1 cheaper, link 4 as much dearer", [1, 4], [1, 3], 5)
+    run.step("link 1 cheaper, link 5 as much dearer", [1, 5], [1, 3], 5)
     run.step("link 2 cheaper", [2], [1], 5)
-    run.step("link 0 cheaper too and link 4 again", [4, 0], [2, 1], 5)
+    run.step("link 0 cheaper too and link 5 again", [5, 0], [2, 1], 5)
 
 
 def dear():
-    run = Run(3, 0, [0, 0, 1, 2], [1, 2, 2, 1], [65_535, 65_535, 65_535, 1]).fresh("dear")
+    dearest = 65_535
+    run = Run(3, 0, [0, 0, 1, 1, 2, 2], [1, 2, 2, 0, 1, 0], [dearest, dearest, dearest, 1, 1, 1]).fresh("dear")
     run.step("link 1 down", [1], [0], 3)
-    run.step("link 1 for link 0", [0, 1], [0, 65_535], 3)
-    run.step("link 3 dear", [3], [65_535], 3)
+    run.step("link 1 for link 0", [0, 1], [0, dearest], 3)
+    run.step("link 4 dear", [4], [dearest], 3)
 
 
 def root_3():
     run = Run(4, 3, *PIER).fresh("root 3").ask("root 3, path to 0", 0, 3).ask("root 3, path to 3", 3, 0)
-    run.step("into root 3 down", [6], [0], 6)
+    run.step("into root 3 dear", [6], [9], 6)
     run.step("link 2 as dear as link 4", [2], [5], 6)
     run.step("link 2 dearer", [2], [6], 6)
     run.ask("path to 0 by link 4", 0, 3)
+    run.step("into root 3 down", [6], [0], 6)
+    run.step("into root 3 up", [6], [1], 6)
     run.step("out of root 3 down", [7], [0], 6)
     run.ask("root 3, 0 unreached", 0, 6)
     run.table = (4, 0, STARTS, ENDS)
     run.step("another root than the tree's", [3], [5], 4)
+
+
+# Links back
+
+
+def link_back():
+    run = at_pier()
+    run.step("link 7 down", [7], [0], 4)
+    run.step("link 7 down already", [7], [0], 4)
+    run.step("link 6 dearer without it", [6], [3], 4)
+    run.step("link 7 up and dear", [7], [65_535], 4)
+    run.step("link 6 down, link 7 left", [6], [0], 4)
+    run.step("link 7 down too", [7], [0], 4)
+    run.step("link 6 up alone", [6], [1], 4)
+    run.step("link 6 down for link 7", [6, 7], [0, 1], 4)
+    run.step("link 6 up beside it", [6], [1], 4)
+    run.step("both down", [7, 6], [0, 0], 4)
+    run.step("both up", [6, 7], [1, 1], 4)
+
+
+def off_the_tree():
+    from_p1("into the root down", [4, 2], [0, 0], 6)
+    from_p1("link 2 down", [2], [0], 6)
+    from_p1("link 5 down", [5], [0], 6)
+    from_p1("link 5 down, link 1 cheaper", [5, 1], [0, 3], 6)
+    from_p1("link 5 down, link 3 cheaper", [5, 3], [0, 1], 6)
+    run = at_pier().step("link 0 down", [0], [0], 6)
+    run.step("link 3 down, which link 5 needs", [3], [0], 6)
+    run.step("link 0 up", [0], [4], 6)
+    run.step("link 3 up and dear", [3], [9], 6)
+    run.step("link 2 down, so link 5 again", [2], [0], 6)
+
+
+def links_back():
+    run = Run(2, 0, [0, 0, 1, 1, 1], [1, 1, 0, 0, 0], [4, 6, 9, 0, 1]).fresh("links back")
+    run.step("the dear one down", [2], [0], 2)
+    run.step("another for the last", [3, 4], [8, 0], 2)
+    run.step("none left", [3], [0], 2)
+    run.step("the links cheaper", [0, 1], [1, 1], 2)
+    run.step("all of them up", [4, 2, 3], [1, 1, 1], 2)
+    run.step("link 0 down, link 4 down", [0, 4], [0, 0], 2)
+    run.step("none left, link 0 up", [0, 2, 3], [1, 0, 0], 2)
+    run.step("one of them, link 0 down", [0, 3], [0, 65_535], 2)
+
+
+def round_trip():
+    run = Run(3, 0, [0, 1, 2], [1, 2, 0], [1, 1, 1]).fresh("a ring of one-way links")
+    run.step("each link cheaper or dearer", [0, 1, 2], [2, 3, 4], 3).ask("no path round it", 2, 6)
 
 
 # Refused
@@ -387,30 +439,38 @@ def unreached():
 # Long batches, tables and paths
 
 
+def beside(links):
+    """So many links from 0 to 1, and one back."""
+    return [0] * links + [1], [1] * links + [0], [7] * (links + 1)
+
+
 def many_rows():
-    run = Run(2, 0, [0] * 300, [1] * 300, [7] * 300, long=1).fresh("300 links")
+    run = Run(2, 0, *beside(300), long=1).fresh("300 links and one back")
     run.step("257 rows", range(257), [9] * 257, 2)
     run.step("6 before 7", range(257), [9] * 257, 2, tree=rows([(0, NONE, NONE), (8, 0, 0)]), keep=False)
     run.step("7 before 9 and 12", [*range(255), 0, 256], [9] * 257, 1)
     run.step("256 rows", range(256), [9] * 256, 2)
-    run.step("8 in row 255", [*range(255), 300], [9] * 256, 2)
+    run.step("8 in row 255", [*range(255), 301], [9] * 256, 2)
     run.step("9 in row 255", [*range(255), 0], [9] * 256, 2)
     run.step("link 299 named", [*range(255), 299], [5] * 256, 2)
+    run.step("the one back down", [300], [0], 2)
 
 
 def too_many_links():
-    run = Run(2, 0, [0] * 4097, [1] * 4097, [7] * 4097, long=1).fresh("4097 links")
+    run = Run(2, 0, *beside(4096), long=1).fresh("4097 links")
     tree = rows([(0, NONE, NONE), (7, 0, 0)])
     run.step("4097 links", [0], [8], 2, tree).ask("4097 links", 1, 6, tree)
 
 
 def along_chain():
-    run = Run(256, 0, range(255), range(1, 256), [65_535] * 255, long=255).fresh("chain")
+    run = Run(256, 0, *chain_links(), long=255).fresh("chain")
     run.long_ask("chain's path", 255)
     run.long_ask("a list too short for it", 254)
     run.step("link 0 to 1", [0], [1], 256)
     run.step("link 0 dear", [0], [65_535], 256)
     run.step("link 0 down", [0], [0], 256)
+    run.step("link 0 up", [0], [65_535], 256)
+    run.step("the chain's middle without a link back", [255], [0], 256)
 
 
 def main():
@@ -422,6 +482,10 @@ def main():
     fork()
     dear()
     root_3()
+    link_back()
+    off_the_tree()
+    links_back()
+    round_trip()
     wrong_rows()
     wrong_sizes()
     wrong_links()

@@ -27,7 +27,7 @@ offered=$(nm -g --defined-only "$prefix/lib/libroutes.a" | awk '$2 == "T" { prin
 declared=$(sed -n 's/^uint16_t \(routes_[a-z_]*\)($/\1/p' "$prefix/include/routes.h" | sort)
 [ "$offered" = "$declared" ] || { echo "the archive has $offered, the header $declared"; exit 1; }
 
-printed=$(printf 'network 2 root 0\nlink 0 1 5\nask 1\n' | "$prefix/bin/records" | "$prefix/bin/routes")
+printed=$(printf 'network 2 root 0\nlink 0 1 5 both 5\nask 1\n' | "$prefix/bin/records" | "$prefix/bin/routes")
 [ "$printed" = "N 1 5 0 0" ] || { echo "the installed program prints: $printed"; exit 1; }
 
 (cd rust && ROUTES_LIB_DIR=$prefix/lib CARGO_TARGET_DIR=../target/tests/rust cargo run --offline --quiet --example pier) >target/tests/rust-installed.out

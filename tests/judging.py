@@ -24,10 +24,16 @@ def judge_links(nodes, root, starts, ends, costs):
     return 0, 0
 
 
-def breaks(v, nodes, root, starts, ends, costs, tree):
+def usable_links(starts, ends, costs):
+    """Those whose cost isn't 0, where some link from their end to their start has a cost that isn't 0."""
+    links_back = {(e, s) for s, e, cost in zip(starts, ends, costs) if cost != 0}
+    return [k for k, (s, e) in enumerate(zip(starts, ends)) if costs[k] != 0 and (s, e) in links_back]
+
+
+def breaks(v, nodes, root, starts, ends, costs, usable, tree):
     dist, parent, first = ([row[i] for row in tree] for i in range(3))
     reached = lambda u: dist[u] != MARK
-    into = [k for k in range(len(starts)) if ends[k] == v and costs[k] != 0 and reached(starts[k])]
+    into = [k for k in usable if ends[k] == v and reached(starts[k])]
     if v == root:
         return (dist[v], parent[v], first[v]) != (0, NONE, NONE)
     if v >= nodes:
@@ -46,8 +52,9 @@ def judge_tree(nodes, root, starts, ends, costs, tree):
     number, value = judge_links(nodes, root, starts, ends, costs)
     if number:
         return number, value
+    usable = usable_links(starts, ends, costs)
     for v in range(256):
-        if breaks(v, nodes, root, starts, ends, costs, tree):
+        if breaks(v, nodes, root, starts, ends, costs, usable, tree):
             return 6, v
     return 0, 0
 
@@ -68,8 +75,8 @@ def rows(known, *changed):
     return tree
 
 
-def at_pier(name, *changed):
-    say(name, judge_tree(4, 0, *PIER, rows(P1, *changed)))
+def at_pier(name, *changed, costs=PIER[2]):
+    say(name, judge_tree(4, 0, *PIER[:2], costs, rows(P1, *changed)))
 
 
 def damaged_distances():
@@ -116,13 +123,41 @@ def forged():
 
 def entered():
     for name, dist in [("from the top", TOP), ("from below the mark", MARK - 1), ("from the mark", MARK), ("rightly", 7)]:
-        say("entered " + name, judge_tree(3, 0, [0, 2], [2, 1], [7, 2],
+        say("entered " + name, judge_tree(3, 0, [0, 1, 2, 2], [2, 2, 0, 1], [7, 2, 7, 2],
             rows([(0, NONE, NONE), (MARK, NONE, NONE), (dist, 0, 0)])))
 
 
 def parallel():
     for name, dist, by in [("by the first of two", 5, 0), ("by the second of two", 5, 1), ("by the dearer third", 6, 2)]:
-        say(name, judge_tree(2, 0, [0, 0, 0], [1, 1, 1], [5, 5, 6], rows([(0, NONE, NONE), (dist, by, by)])))
+        say(name, judge_tree(2, 0, [0, 0, 0, 1], [1, 1, 1, 0], [5, 5, 6, 9], rows([(0, NONE, NONE), (dist, by, by)])))
+
+
+LOST_3 = (3, MARK, NONE, NONE)
+
+
+def one_way():
+    """Link 6 leads to node 3, and link 7 is its link back."""
+    link_7_down = PIER[2][:7] + [0]
+    at_pier("node 3 without its link back", costs=link_7_down)
+    at_pier("node 3 unreached for that", LOST_3, costs=link_7_down)
+    at_pier("node 3's link back dear", costs=PIER[2][:7] + [65_535])
+    link_6_down = PIER[2][:6] + [0, 1]
+    at_pier("node 3 by a link that is down", costs=link_6_down)
+    at_pier("node 3 unreached, its own link up", LOST_3, costs=link_6_down)
+
+
+def links_back():
+    """Links 0 and 1 lead from 0 to 1, links 2 and 3 back: any of these will do."""
+    for name, costs in [("both links back up", [5, 6, 5, 6]), ("the first link back down", [5, 6, 0, 6]),
+                        ("the second link back down", [5, 6, 5, 0]), ("both links back down", [5, 6, 0, 0])]:
+        for reached, row in [("reached", (5, 0, 0)), ("unreached", (MARK, NONE, NONE))]:
+            say(f"{name}, {reached}", judge_tree(2, 0, [0, 0, 1, 1], [1, 1, 0, 0], costs, rows([(0, NONE, NONE), row])))
+
+
+def round_trip():
+    """A ring of one-way links has no link back: what comes round over others is none."""
+    for name, known in [("followed", [(0, NONE, NONE), (1, 0, 0), (2, 1, 0)]), ("left alone", [(0, NONE, NONE)])]:
+        say(f"a ring of one-way links, {name}", judge_tree(3, 0, [0, 1, 2], [1, 2, 0], [1, 1, 1], rows(known)))
 
 
 def sizes():
@@ -164,12 +199,17 @@ def several():
     say("3 before 6", judge_tree(3, 0, [2, 1], [0, 0], [1], broken))
 
 
+def chain_links():
+    """256 nodes in a row, with links both ways at the dearest cost: the link to node v from the one before it is 2v - 2."""
+    ends = sorted([(v, v + 1) for v in range(255)] + [(v + 1, v) for v in range(255)])
+    return [s for s, _ in ends], [e for _, e in ends], [65_535] * 510
+
+
 def chains():
-    chain = (list(range(255)), list(range(1, 256)), [65_535] * 255)
     for last in (16_711_425, 16_711_426, 16_776_961):
-        tree = [(0, NONE, NONE)] + [(v * 65_535, v - 1, 0) for v in range(1, 256)]
-        tree[255] = (last, 254, 0)
-        say(f"chain to {last}", judge_tree(256, 0, *chain, tree))
+        tree = [(0, NONE, NONE)] + [(v * 65_535, 2 * v - 2, 0) for v in range(1, 256)]
+        tree[255] = (last, 508, 0)
+        say(f"chain to {last}", judge_tree(256, 0, *chain_links(), tree))
 
 
 def main():
@@ -178,6 +218,9 @@ def main():
     forged()
     entered()
     parallel()
+    one_way()
+    links_back()
+    round_trip()
     sizes()
     many_links()
     wrong_links()

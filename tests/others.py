@@ -13,25 +13,29 @@ import networkx
 MARK, NONE = 16_777_215, 65_535
 
 
-def distances(nodes, root, ends, costs):
-    """By networkx. Parallel links are parallel edges; a link of cost 0 is none."""
+def usable_links(nodes, ends, costs):
+    """A graph by networkx, its edges named by the links. Parallel links are parallel edges. A link of cost 0 is none; of the
+    others those go that no edge leads back from."""
     graph = networkx.MultiDiGraph()
     graph.add_nodes_from(range(nodes))
-    graph.add_weighted_edges_from((s, e, cost) for (s, e), cost in zip(ends, costs) if cost != 0)
-    return networkx.single_source_dijkstra_path_length(graph, root)
+    graph.add_edges_from((s, e, k, {"weight": costs[k]}) for k, (s, e) in enumerate(ends) if costs[k] != 0)
+    one_way = [(s, e, k) for s, e, k in graph.edges(keys=True) if not graph.has_edge(e, s)]
+    graph.remove_edges_from(one_way)
+    return graph
 
 
 def due_tree(nodes, root, ends, costs, old_parents):
     """A row for each node: its distance, its old parent link where that is tight and else its smallest, its first link."""
-    dist = distances(nodes, root, ends, costs)
+    graph = usable_links(nodes, ends, costs)
+    dist = networkx.single_source_dijkstra_path_length(graph, root)
     tight = {v: [] for v in range(nodes)}
-    for k, ((s, e), cost) in enumerate(zip(ends, costs)):
-        if cost != 0 and s in dist and dist[s] + cost == dist[e]:
+    for s, e, k in graph.edges(keys=True):
+        if s in dist and dist[s] + costs[k] == dist[e]:
             tight[e].append(k)
     rows = {root: (0, NONE, NONE)}
     for v in sorted(dist, key=dist.get):
         if v != root:
-            parent = old_parents[v] if old_parents[v] in tight[v] else tight[v][0]
+            parent = old_parents[v] if old_parents[v] in tight[v] else min(tight[v])
             start = ends[parent][0]
             rows[v] = (dist[v], parent, parent if start == root else rows[start][2])
     return [rows.get(v, (MARK, NONE, NONE)) for v in range(nodes)]

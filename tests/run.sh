@@ -49,16 +49,16 @@ R 21 84
 my=$room/my.txt
 cat >"$my" <<'END'
 network 3 root 0     # three nodes; routes start at node 0
-link 0 1 4           # link 0: from node 0 to node 1, cost 4
-link 1 2 2           # link 1
+link 0 1 4 both 6    # link 0, from node 0 to node 1, cost 4; and back, link 1, cost 6
+link 1 2 2 both 2    # links 2 and 3
 ask 2
-change 1 5           # link 1 now costs 5
+change 2 5           # link 2, from node 1 to node 2, now costs 5
 apply
 ask 2
 END
-call 0 'N 2 6 1 0
+call 0 'N 2 6 2 0
 A 1 2
-N 2 9 1 0
+N 2 9 2 0
 ' '' "$my"
 call 0 '1 batch, 6 rows: none differ
 ' '' --check "$my"
@@ -69,13 +69,13 @@ call 0 'N 0 0 - -
 call 0 '0 batches, 1 row: none differ
 ' '' --check "$room/my.stream"
 
-printf 'change 1 6\n\nchange 1 7\n' >>"$my"
-said="$my:10: change 1 7: this link has a row already, on line 8 (refusal 9)
+printf 'change 2 6\n\nchange 2 7\n' >>"$my"
+said="$my:10: change 2 7: this link has a row already, on line 8 (refusal 9)
 "
-call 1 'N 2 6 1 0
+call 1 'N 2 6 2 0
 A 1 2
-N 2 9 1 0
-R 9 36 31
+N 2 9 2 0
+R 9 50 45
 ' "$said" "$my"
 call 1 '1 batch, 6 rows: none differ
 ' "$said" --check "$my"

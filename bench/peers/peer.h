@@ -20,7 +20,7 @@ struct Network {
     std::vector<Link> links;
 };
 
-// The columns as they are lent, a link of cost 0 being down.
+// The columns as they are lent, a link of cost 0 being down, and one that no link which is up leads back from no link.
 struct Columns {
     int nodes;
     int root;
@@ -28,10 +28,14 @@ struct Columns {
 
     Network usable() const {
         Network net{nodes, {}, {}};
+        std::vector<char> joined(nodes * nodes, 0);
+        for (std::size_t k = 0; k < starts.size(); k++) {
+            joined[starts[k] * nodes + ends[k]] |= costs[k] != 0;
+        }
         net.ends.reserve(starts.size());
         net.links.reserve(starts.size());
         for (std::size_t k = 0; k < starts.size(); k++) {
-            if (costs[k] != 0) {
+            if (costs[k] != 0 && joined[ends[k] * nodes + starts[k]]) {
                 net.ends.emplace_back(starts[k], ends[k]);
                 net.links.push_back({costs[k]});
             }

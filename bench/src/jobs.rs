@@ -4,9 +4,10 @@ use crate::given::{Given, BATCHES};
 use crate::peers::{Guest, Peer};
 use crate::rounds::{runner, Heat, Runner};
 use crate::row::{Column, Row};
-use bench::made::Shape;
+use bench::made::{self, Shape};
+use bench::plain::Plain;
 use bench::product::{self, Columns};
-use routes::{Change, Network, Tree, NODES};
+use routes::{Change, Network, Tree, NODES, UNREACHED};
 use std::hint::black_box;
 
 const NETWORKS: u64 = 8;
@@ -19,12 +20,13 @@ const PLAINS: [usize; 2] = [SIMPLE, PACKED];
 const FRESH: [(usize, &str); 7] = [
     (SIMPLE, "plain rebuild, simple"),
     (PACKED, "plain rebuild, packed"),
-    (2, "fresh build"),
+    (BUILD, "fresh build"),
     (3, "fresh build, safe Rust"),
     (4, "judging the table alone"),
     (JUDGING, "judging table and tree alone"),
     (6, "path to the deepest node"),
 ];
+const BUILD: usize = 2;
 // What no update can do without.
 const JUDGING: usize = 5;
 // Over a network and a batch.
@@ -67,6 +69,30 @@ fn update_heat<'a>(given: &'a Given, batch: &'a [Change]) -> Heat<'a> {
 
 fn faster(times: [f64; 2]) -> f64 {
     times[0].min(times[1])
+}
+
+// The worst that the search for a link back can meet: so many links, and those back down.
+const WORST: [&str; 3] =
+    ["fresh build, links back down", "judging table and tree, links back down", "one link raised, links back down"];
+
+fn worst_heat(net: &Network) -> Heat<'_> {
+    let mut built = Tree::empty();
+    product::build(net, &mut built);
+    assert!(built.distances[net.nodes - 1] == UNREACHED, "a link without a link back was taken");
+    for plain in [Plain::Simple, Plain::packed(net)] {
+        assert!(plain.rebuild(net) == built, "a fresh build differs from a plain rebuild");
+    }
+    let (tree, columns) = (built.clone(), Columns::of(&[Change { link: 0, cost: 9 }]));
+    let memory = (net.clone(), built.clone(), [0; NODES]);
+    let ready = move |(changed, tree, _): &mut (Network, Tree, [u16; NODES])| {
+        changed.costs.copy_from_slice(&net.costs);
+        tree.clone_from(&built);
+    };
+    Heat::new(vec![
+        runner(Tree::empty(), |_| (), |tree| product::build(black_box(net), tree)),
+        runner((), |_| (), move |_| product::judge_tree(black_box(net), black_box(&tree))),
+        runner(memory, ready, move |(net, tree, list)| product::update(net, tree, &columns, list)),
+    ])
 }
 
 // All heats over one network.
@@ -133,13 +159,20 @@ pub fn measure(heading: &'static str, shape: Shape, links: usize, peers: &[Peer]
     let given: Vec<Given> = (1..=NETWORKS).map(|seed| Given::made(shape, links, seed)).collect();
     let mut courses: Vec<Course> = given.iter().map(Course::over).collect();
     let mut guests: Vec<_> = peers.iter().map(|peer| peer.over(&given)).collect();
+    let worst = made::links_back_down(links);
+    let mut worst: Vec<Heat> = worst.iter().map(worst_heat).collect();
     for round in 0..rounds {
         let (before, after) = guests.split_at_mut(round % (peers.len() + 1));
         before.iter_mut().for_each(Guest::turn);
         one_round(&mut courses, round);
+        worst.iter_mut().for_each(|heat| heat.turn(round));
         after.iter_mut().for_each(Guest::turn);
     }
     let mut rows = rows(&courses);
+    for (who, name) in WORST.iter().enumerate() {
+        let time = worst.iter().map(|heat| heat.best[who]).max().expect("there are two") as f64;
+        rows.push(Row::of(*name, courses.iter().map(|one| (one.fresh(BUILD), time))));
+    }
     for guest in guests {
         let rebuilds = courses.iter().map(Course::rebuild);
         rows.extend(guest.rows(rebuilds.collect()));

@@ -6,8 +6,12 @@
 //! one each way. Between masts a link costs 10 and 1 more for each hundred metres; a boat at either end doubles that; each
 //! direction adds up to a fifth of its own. One in 32 of the pairs that nothing hangs on is down.
 //!
-//! Random ends: each link leads from any node to any other and costs 1 to 1,000. There is no near and far, so many more
-//! nodes wait at once than in a mesh.
+//! Random ends: each pair joins any two nodes, and each of its two links costs 1 to 1,000. There is no near and far, so many
+//! more nodes wait at once than in a mesh.
+//!
+//! Links back down, in two networks. Parallel: half of the links lead from the root to another node, and the other half back; these
+//! are all down, so that each of the first is asked for its link back and none is found. Hub: every other node is joined to the root
+//! both ways, and has one link to the hub; all other links lead from the hub back to them, and are down.
 use routes::{Change, Network, Tree, NO_LINK};
 
 /// Splitmix: the same numbers from the same seed, everywhere.
@@ -118,12 +122,34 @@ fn mesh(links: usize, dice: &mut Dice) -> Vec<(u16, u16, u16)> {
 }
 
 fn random_ends(links: usize, dice: &mut Dice) -> Vec<(u16, u16, u16)> {
-    let link = |place: usize| {
+    let pair = |place: usize| {
         let start = place % NODES;
         let end = (start + 1 + dice.below(NODES - 1)) % NODES;
-        (start as u16, end as u16, 1 + dice.below(1_000) as u16)
+        let (start, end) = (start as u16, end as u16);
+        [(start, end, 1 + dice.below(1_000) as u16), (end, start, 1 + dice.below(1_000) as u16)]
     };
-    (0..links).map(link).collect()
+    (0..links / 2).flat_map(pair).collect()
+}
+
+fn parallel(links: usize) -> Network {
+    let half = links / 2;
+    let there = (0..half).map(|place| (0, 1, 1 + place as u16));
+    Network::with_links(2, 0, there.chain((half..links).map(|_| (1, 0, 0))))
+}
+
+fn hub(links: usize) -> Network {
+    let hub = NODES as u16 - 1;
+    let joined = (1..hub).flat_map(|node| [(0, node, node), (node, 0, node), (node, hub, node)]);
+    let mut table: Vec<(u16, u16, u16)> = joined.collect();
+    table.extend((table.len()..links).map(|place| (hub, 1 + (place % (NODES - 2)) as u16, 0)));
+    table.sort();
+    Network::with_links(NODES, 0, table)
+}
+
+/// The networks on which the search for a link back takes longest: the one where links ask one by one, the other where each
+/// node asks once.
+pub fn links_back_down(links: usize) -> [Network; 2] {
+    [parallel(links), hub(links)]
 }
 
 /// How a network is made.

@@ -1,7 +1,7 @@
 // The table as a picture: a bar for each ratio, a line at 1.0, a mark at each aim. Its colours follow the reader's choice
 // of light or dark.
 use crate::row::Column;
-use crate::table::{parts, Line, Whose};
+use crate::table::{parts, Line, Whose, WORST};
 use std::fmt::Write as _;
 
 const TITLE: &str = "Time taken, the faster of two plain Rust programs that rebuild from nothing being 1.0";
@@ -101,7 +101,7 @@ impl Drawing {
 pub fn svg(columns: &[Column]) -> String {
     let mut drawing = Drawing { body: String::new(), y: TOP };
     drawing.legend(columns);
-    for (heading, lines) in parts(columns).iter().filter(|part| !part.1.is_empty()) {
+    for (heading, lines) in parts(columns).iter().filter(|part| part.0 != WORST && !part.1.is_empty()) {
         drawing.part(columns, heading, lines);
     }
     let (body, height) = (drawing.body, drawing.y + 12);

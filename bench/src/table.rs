@@ -30,8 +30,12 @@ const fn others(name: &'static str) -> Line {
     Line { name, whose: Whose::Others, aim: None }
 }
 
+/// The part that isn't against plain programs, and has no place in the picture.
+pub const WORST: &str =
+    "The worst for links back: the longer time of two networks with these down, against the product's own fresh build";
+
 // The lines, in parts with a heading each.
-const PARTS: [(&str, &[Line]); 7] = [
+const PARTS: [(&str, &[Line]); 8] = [
     (
         "A job, against the faster plain program, which does the same from nothing",
         &[
@@ -63,6 +67,14 @@ const PARTS: [(&str, &[Line]); 7] = [
         &[ours("judging the table alone"), ours("judging table and tree alone"), ours("path to the deepest node")],
     ),
     ("The program, against the faster plain one", &[aimed(program::NAME, 1.0)]),
+    (
+        WORST,
+        &[
+            aimed("fresh build, links back down", 20.0),
+            aimed("judging table and tree, links back down", 20.0),
+            aimed("one link raised, links back down", 20.0),
+        ],
+    ),
     (
         "The two plain programs, against the faster of them",
         &[others("plain rebuild, simple"), others("plain rebuild, packed")],
@@ -132,7 +144,8 @@ fn ratios(columns: &[Column]) -> String {
     }
     heading(&mut text, columns, "Microseconds, on the machine of this run");
     let told = ["plain rebuild, simple", "plain rebuild, packed"];
-    for name in told.into_iter().chain(["fresh build", "one tree link raised", "judging table and tree alone"]) {
+    let ours = ["fresh build", "one tree link raised", "judging table and tree alone", "fresh build, links back down"];
+    for name in told.into_iter().chain(ours) {
         let micros = |column: &Column| column.row(name).map_or("–".to_string(), |row| format!("{:.1}", row.micros()));
         writeln!(text, "| {name} | {} | |", across(columns, micros)).unwrap();
     }

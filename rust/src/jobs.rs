@@ -15,7 +15,7 @@ impl Tree {
     /// ```
     /// use routes::{Network, Refusal, Tree};
     ///
-    /// let tree = Tree::build(&Network::with_links(3, 0, [(0, 1, 4), (0, 1, 4)]))?;
+    /// let tree = Tree::build(&Network::with_pairs(3, 0, [(0, 1, 4, 4), (0, 1, 4, 4)]))?;
     /// assert_eq!((tree.distance(1), tree.parent(1), tree.first(1)), (Some(4), Some(0), Some(0)));
     /// assert_eq!(tree.distance(2), None);
     /// assert_eq!(Tree::build(&Network::with_links(0, 0, [])), Err(Refusal::WrongNodeCount));
@@ -32,7 +32,7 @@ impl Tree {
     /// ```
     /// use routes::{Network, Refusal, Tree};
     ///
-    /// let net = Network::with_links(2, 0, [(0, 1, 4)]);
+    /// let net = Network::with_pairs(2, 0, [(0, 1, 4, 4)]);
     /// let mut tree = Tree::build(&net)?;
     /// assert_eq!(tree.judge(&net), Ok(()));
     /// tree.distances[1] = 3;
@@ -50,14 +50,18 @@ impl Tree {
     /// ```
     /// use routes::{Change, Network, Refusal, Tree};
     ///
-    /// let mut net = Network::with_links(2, 0, [(0, 1, 4), (0, 1, 6)]);
+    /// let mut net = Network::with_links(2, 0, [(0, 1, 4), (0, 1, 6), (1, 0, 5)]);
     /// let mut tree = Tree::build(&net)?;
     /// assert_eq!(tree.update(&mut net, &[Change { link: 0, cost: 0 }])?, [1]);
     /// assert_eq!(tree.parent(1), Some(1));
     ///
+    /// // Link 2 is the one link back: without it no link to node 1 is usable.
+    /// assert_eq!(tree.update(&mut net, &[Change { link: 2, cost: 0 }])?, [1]);
+    /// assert_eq!(tree.distance(1), None);
+    ///
     /// let twice = [Change { link: 1, cost: 2 }, Change { link: 1, cost: 3 }];
     /// assert_eq!(tree.update(&mut net, &twice), Err(Refusal::RowNamesLinkAgain { row: 1, earlier: 0 }));
-    /// assert_eq!(net.costs, [0, 6]);
+    /// assert_eq!(net.costs, [0, 6, 0]);
     /// # Ok::<(), Refusal>(())
     /// ```
     pub fn update(&mut self, net: &mut Network, batch: &[Change]) -> Result<Vec<u16>, Refusal> {
@@ -79,9 +83,9 @@ impl Tree {
     /// ```
     /// use routes::{Network, Refusal, Tree};
     ///
-    /// let net = Network::with_links(4, 0, [(0, 1, 4), (1, 2, 2)]);
+    /// let net = Network::with_pairs(4, 0, [(0, 1, 4, 4), (1, 2, 2, 2)]);
     /// let tree = Tree::build(&net)?;
-    /// assert_eq!(tree.path(&net, 2)?, [0, 1]);
+    /// assert_eq!(tree.path(&net, 2)?, [0, 2]);
     /// assert_eq!(tree.path(&net, 0)?, []);
     /// assert_eq!(tree.path(&net, 3), Err(Refusal::AskedUnreached));
     /// assert_eq!(tree.path(&net, 4), Err(Refusal::AskedNoNode));

@@ -8,12 +8,9 @@
 //! ```
 //! use routes::{Change, Network, Tree};
 //!
-//! // The pier network: start, end and cost of each link, in rising order of the starts.
-//! let mut net = Network::with_links(
-//!     4,
-//!     0,
-//!     [(0, 1, 4), (0, 2, 7), (1, 0, 4), (1, 2, 2), (2, 0, 7), (2, 1, 2), (2, 3, 1), (3, 2, 1)],
-//! );
+//! // The pier network: pairs of nodes, each with what it costs there and what it costs back. The links are numbered in the
+//! // order of their starts: 0→1 is link 0, 1→2 link 3, 2→3 link 6 and 3→2 link 7.
+//! let mut net = Network::with_pairs(4, 0, [(0, 1, 4, 4), (0, 2, 7, 7), (1, 2, 2, 2), (2, 3, 1, 1)]);
 //! let mut tree = Tree::build(&net)?;
 //! assert_eq!(tree.distance(3), Some(7));
 //! assert_eq!(tree.path(&net, 3)?, [0, 3, 6]);
@@ -23,6 +20,10 @@
 //! assert_eq!(moved, [1, 2, 3]);
 //! assert_eq!(tree.distance(3), Some(8));
 //! assert_eq!(net.costs[3], 5);
+//!
+//! // Link 7 goes down. It is node 3's link back, and a link without one isn't used.
+//! assert_eq!(tree.update(&mut net, &[Change { link: 7, cost: 0 }])?, [3]);
+//! assert_eq!(tree.distance(3), None);
 //! # Ok::<(), routes::Refusal>(())
 //! ```
 #![deny(unsafe_code)]

@@ -31,7 +31,7 @@ fn allocated<T>(job: impl FnOnce() -> T) -> (usize, T) {
 }
 
 fn chain() -> Network {
-    Network::with_links(256, 0, (0..255).map(|start| (start, start + 1, 7)))
+    Network::with_pairs(256, 0, (0..255).map(|node| (node, node + 1, 7, 7)))
 }
 
 #[test]
@@ -44,7 +44,7 @@ fn what_is_handed_back_and_nothing_else() {
 
     let (bytes, links) = allocated(|| tree.path(&net, 200).unwrap());
     assert_eq!((bytes, links.len()), (2 * 200, 200));
-    let (bytes, changed) = allocated(|| tree.update(&mut net, &[Change { link: 250, cost: 9 }]).unwrap());
+    let (bytes, changed) = allocated(|| tree.update(&mut net, &[Change { link: 500, cost: 9 }]).unwrap());
     assert_eq!((bytes, changed), (2 * 5, vec![251, 252, 253, 254, 255]));
     assert_eq!(allocated(|| tree.update(&mut net, &[]).unwrap()), (0, vec![]));
 }
@@ -65,6 +65,6 @@ fn a_batch_of_any_length() {
         assert_eq!(told.as_ref().err().copied(), due);
         assert_eq!(bytes, told.map_or(0, |changed| 2 * changed.len()));
     }
-    tree.distances[9] = 1;
+    tree.distances[9] += 1;
     assert_eq!(tree.update(&mut net, &rows), Err(Refusal::TreeUnfit { node: 9 }));
 }

@@ -1,5 +1,5 @@
-/* The pier network through the C functions: P1, P2, P4, a path and a refusal, each compared with the rows that it must
- * give; and the scope's stream of 85 bytes through the reader.
+/* The pier network through the C functions: P1, P2, P4, a path, a link back that goes down and comes up, and a refusal, each
+ * compared with the rows that it must give; and the scope's stream of 85 bytes through the reader.
  *
  *     make example
  */
@@ -112,6 +112,14 @@ int main(void) {
         list[i] = 7777;
     hold(routes_path(NODES, 0, starts, LINKS, ends, LINKS, costs, LINKS, dist, parent, first, 3, list, ROUTES_NODES,
                      &count, values) == 0 && listed(2, (uint16_t[]){1, 6}), "the path to node 3");
+
+    hold(update(1, (uint16_t[]){7}, (uint16_t[]){0}) == 0 && listed(1, (uint16_t[]){3}), "link 7 down changes node 3");
+    hold(rows((uint32_t[]){0, 2, 7, ROUTES_UNREACHED}, (uint16_t[]){NO, 0, 1, NO}, (uint16_t[]){NO, 0, 1, NO}),
+         "which it was the link back of");
+    hold(routes_path(NODES, 0, starts, LINKS, ends, LINKS, costs, LINKS, dist, parent, first, 3, list, ROUTES_NODES,
+                     &count, values) == ROUTES_ASKED_UNREACHED, "no path to node 3");
+    hold(update(1, (uint16_t[]){7}, (uint16_t[]){9}) == 0 && listed(1, (uint16_t[]){3}), "link 7 up changes it again");
+    hold(rows((uint32_t[]){0, 2, 7, 8}, (uint16_t[]){NO, 0, 1, 6}, (uint16_t[]){NO, 0, 1, 1}), "to P4's rows");
 
     uint16_t before[LINKS];
     memcpy(before, costs, sizeof costs);

@@ -11,11 +11,13 @@ use lib.ListN.{length, getD}
 use Rattle.rules.specs.Net.{Net, Usable}
 use Rattle.rules.specs.Columns.{mostNodes}
 use Rattle.rules.proofs.Logic.{true-false}
+use Rattle.heads.specs.Heads.{Head}
 use Rattle.offer.specs.Offer.{distAt, foundAt, Lined, Told, unheard, heard}
-use Rattle.afoot.specs.Afoot.{Orderly, Untouched, Seeded, Calm, Partly}
+use Rattle.afoot.specs.Afoot.{Orderly, Back, Touches, Untouched, Seeded, Calm, Partly}
 use Rattle.afoot.specs.Finding.{Yields, Finding, GoesOn, Heard, CalmOr}
 use Rattle.afoot.proofs.Offers.{fell-none, fell-then, link-fell, partly-fewer, partly-more}
-use Rattle.afoot.proofs.Finds.{on-none, on-fewer, on-more}
+use Rattle.afoot.proofs.Finds.{on-none, on-fewer, on-more, on-then}
+use Rattle.afoot.proofs.Rounds.{part-past}
 
 -- ---- one link
 
@@ -64,6 +66,11 @@ pub heard-none : {N : Net} {done : ℕ → Type 0} {dist keys mins found : List 
     → Heard N done dist keys found done dist keys mins found
 heard-none p long = record { partly = p; fell = fell-none; goes-on = on-none long }
 
+pub heard-then : {N : Net} {done₀ done done' : ℕ → Type 0} {dist₀ keys₀ found₀ dist keys mins found dist' keys' mins' found' : List ℕ}
+    → Heard N done₀ dist₀ keys₀ found₀ done dist keys mins found → Heard N done dist keys found done' dist' keys' mins' found'
+    → Heard N done₀ dist₀ keys₀ found₀ done' dist' keys' mins' found'
+heard-then a b = record { partly = b .partly; fell = fell-then (a .fell) (b .fell); goes-on = on-then (a .goes-on) (b .goes-on) }
+
 -- ---- the links into nodes without a first link
 
 -- link j was calm, or leads to such a node and comes before link k
@@ -105,12 +112,43 @@ module _ (N : Net) (dist keys first : List ℕ) where
 
 -- ---- the links of the rows
 
-pub untouched-more : (rows : List ℕ) (i j : ℕ) → Untouched rows (i + 1) j → j ≢ getD rows i 0 → Untouched rows i j
-untouched-more rows i j apart n m a l e = at (ℕ-discrete m i)
-  where
-    at : Dec (m ≡ i) → ⊥
-    at (yes q) = n (sym (rw q at e))
-    at (no d) = apart m (omega arith) l e
+module _ (N : Net) (rows : List ℕ) (i : ℕ) where
+  pub untouched-more : (j : ℕ) → Untouched N rows (i + 1) j → ¬ (Touches N (getD rows i 0) j) → Untouched N rows i j
+  untouched-more j apart n m a l e = at (ℕ-discrete m i)
+    where
+      at : Dec (m ≡ i) → ⊥
+      at (yes q) = n (rw q at e)
+      at (no d) = apart m (omega arith) l e
 
-pub untouched-all : (rows : List ℕ) (i : ℕ) → length rows ≤ i → (j : ℕ) → Untouched rows i j
-untouched-all rows i past j m a l e = omega arith
+  pub untouched-all : length rows ≤ i → (j : ℕ) → Untouched N rows i j
+  untouched-all past j m a l e = omega arith
+
+-- of the links that the i-th row touches, its own is done and those before k that lead back over it
+abbrev pub BackTo : Net → List ℕ → ℕ → ℕ → ℕ → Type 0
+BackTo N rows i k j = Untouched N rows (i + 1) j × (Back N (getD rows i 0) j → j < k)
+
+module _ (N : Net) (rows : List ℕ) (i : ℕ) where
+  pub back-more : (k j : ℕ) → BackTo N rows i (k + 1) j → j ≢ k → BackTo N rows i k j
+  back-more k j b n = (b .0, λ back. omega (arith, b .1 back))
+
+  -- link k doesn't lead back
+  pub back-past : (k : ℕ) → N .end k ≢ N .start (getD rows i 0) → (j : ℕ) → Usable N j → BackTo N rows i (k + 1) j → BackTo N rows i k j
+  back-past k other j u b = (b .0, λ back. at back (ℕ-discrete j k))
+    where
+      at : Back N (getD rows i 0) j → Dec (j ≡ k) → j < k
+      at back (yes e) = absurd (other (rw e at (back .to)))
+      at back (no n) = omega (arith, b .1 back)
+
+  module _ {head : ℕ} (f : Head (N .links) (N .start) (N .end (getD rows i 0)) head) where
+    -- its own link is done
+    pub back-none : (j : ℕ) → BackTo N rows i head j → j ≢ getD rows i 0 → Untouched N rows i j
+    back-none j b n = untouched-more N rows i j (b .0) touches
+      where
+        touches : Touches N (getD rows i 0) j → ⊥
+        touches (inl e) = n (sym e)
+        touches (inr back) = f .before j (b .1 back) (back .from)
+
+    -- no link from k on leaves the end
+    pub back-all : Orderly N → {k : ℕ} → head ≤ k → (k < N .links → N .start k ≢ N .end (getD rows i 0)) → (j : ℕ) → Usable N j
+        → Untouched N rows (i + 1) j → BackTo N rows i k j
+    back-all orderly begins past j u apart = (apart, λ back. part-past orderly f begins past j (u .is-link) (back .from))

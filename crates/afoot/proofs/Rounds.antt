@@ -37,6 +37,18 @@ starts-rise {N} p i (suc j) a b = at (ℕ-discrete i (suc j)) (λ l. starts-rise
         let step : N .start j ≤ N .start (suc j) = rw back at (p .order (suc j) b) in
         omega (arith, before (omega arith))
 
+-- the links that leave u begin before k, and none from k on leaves it
+pub part-past : {N : Net} → Orderly N → {u head k : ℕ} → Head (N .links) (N .start) u head → head ≤ k → (k < N .links → N .start k ≢ u)
+    → (j : ℕ) → j < N .links → N .start j ≡ u → j < k
+part-past {N} orderly {u} {head} {k} f begins past j link e = at (decLt j k)
+  where
+    at : Dec (j < k) → j < k
+    at (yes before) = before
+    at (no behind) =
+        let from = starts-rise orderly head k begins (omega arith) in
+        let to = starts-rise orderly k j (omega arith) link in
+        absurd (past (omega arith) (omega (arith, from, to, f .leaves (omega arith))))
+
 -- the links that leave u are offered up to k, from u's distance `near`; the weight was `heavy` before them
 pub record Leaves (N : Net) (u first near heavy k : ℕ) (dist keys mins : List ℕ) : Type 0 where
   pub begins : first ≤ k
@@ -78,14 +90,7 @@ module _ {N : Net} {u first : ℕ} (f : Head (N .links) (N .start) u first) {dis
     -- no link from k on leaves u
     module _ (past : k < N .links → N .start k ≢ u) where
       leaves-done : (j : ℕ) → Usable N j → Unit {0} → N .start j ≡ u → j < k
-      leaves-done j ok any e = at (decLt j k)
-        where
-          at : Dec (j < k) → j < k
-          at (yes before) = before
-          at (no behind) =
-              let from = starts-rise orderly first k (h .begins) (omega (arith, ok .is-link)) in
-              let to = starts-rise orderly k j (omega arith) (ok .is-link) in
-              absurd (past (omega (arith, ok .is-link)) (omega (arith, from, to, f .leaves (omega (arith, h .begins, ok .is-link)))))
+      leaves-done j ok any e = part-past orderly f (h .begins) past j (ok .is-link) e
 
       pub leaves-all : {dist₀ keys₀ found₀ found : List ℕ} → weight N dist₀ keys₀ ≡ heavy
           → GoesOn N (NotFrom N u) dist₀ keys₀ found₀ (λ j. N .start j ≡ u → j < k) dist keys found

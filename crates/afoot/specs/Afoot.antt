@@ -1,7 +1,7 @@
 -- Distances on their way to the least sums, and the queue of the nodes whose links have yet to be offered. Assumes
 -- nothing.
 use mathlib.Core.Path.{_≡_}
-use mathlib.Core.Logic.{_≢_}
+use mathlib.Core.Logic.{_⊎_, _≢_}
 use mathlib.Core.Bool.{not}
 use mathlib.Core.List.{List}
 use Prim.Native.Nat.{ℕ, zero, suc, _+_, _-_, _*_, _≤_, _<_}
@@ -55,12 +55,17 @@ Every k = Unit {0}
 abbrev pub NotFrom : Net → ℕ → ℕ → Type 0
 NotFrom N u k = N .start k ≢ u
 
--- a row that names link j touches that link
-abbrev pub Touches : ℕ → ℕ → Type 0
-Touches j k = j ≡ k
+-- link k leads back over link j, from its end to its start
+pub record Back (N : Net) (j k : ℕ) : Type 0 where
+  pub from : N .start k ≡ N .end j
+  pub to : N .end k ≡ N .start j
 
-abbrev pub Untouched : List ℕ → ℕ → ℕ → Type 0
-Untouched rows i k = (m : ℕ) → i ≤ m → m < length rows → ¬ (Touches (getD rows m 0) k)
+-- a row that names link j touches that link, and each that leads back over it
+abbrev pub Touches : Net → ℕ → ℕ → Type 0
+Touches N j k = (j ≡ k) ⊎ Back N j k
+
+abbrev pub Untouched : Net → List ℕ → ℕ → ℕ → Type 0
+Untouched N rows i k = (m : ℕ) → i ≤ m → m < length rows → ¬ (Touches N (getD rows m 0) k)
 
 -- each row names one of so many links
 pub record Naming (links : ℕ) (rows : List ℕ) : Type 0 where

@@ -1,21 +1,23 @@
 -- What the tests of a row decide, and the pass over the rows, one row further. Assumes nothing.
-use mathlib.Core.Path.{_≡_, sym, _∙_}
+use mathlib.Core.Path.{_≡_, refl, sym, _∙_}
 use mathlib.Core.Logic.{_≢_}
-use mathlib.Core.Bool.{Bool, true, false, _&&_, and-false}
+use mathlib.Core.Bool.{Bool, true, false, _&&_, and-true, and-false, true≢false}
 use mathlib.Core.List.{List}
 use Prim.Native.Nat.{ℕ, _+_, _≤_, _<_}
 use native.Mathlib.Omega.{arith}
-use lib.Dec.{eqb}
+use native.Mathlib.Decide.{ℕ-discrete}
+use lib.Dec.{eqb, ltb}
 use lib.ListN.{length, getD}
 use borrow.Author.Count.{below-more}
 use borrow.Author.Tests.{lt-ltb, le-ltb, eq-eqb, ne-eqb}
 use Rattle.rules.specs.Net.{Net}
 use Rattle.rules.specs.Fit.{Rows}
 use Rattle.rules.specs.Tests.{usable}
-use Rattle.rules.specs.Columns.{Table, Proper, netIn, mostNodes, noLink}
+use Rattle.rules.specs.Keep.{one}
+use Rattle.rules.specs.Columns.{Table, Proper, netIn, someLeads, mostNodes, noLink}
 use Rattle.rules.specs.declared.Profile.{Profile}
 use Rattle.usable.proofs.Reading.{start-has-row, read-row}
-use Rattle.alone.specs.Alone.{emptyAt, tightBy, firstOf, hungBy, hungAlone, rowAlone, RightBefore}
+use Rattle.alone.specs.Alone.{emptyAt, tightBy, firstOf, usableBy, hungBy, hungAlone, rowAlone, RightBefore}
 
 -- what is read of a link, of its start and of a node decides
 module _ (p : Profile) {t : Table} (proper : Proper t) (ds : List ℕ) (long : length ds ≡ mostNodes) {k : ℕ} (is-link : k < length (t .starts)) where
@@ -31,6 +33,25 @@ module _ (p : Profile) {t : Table} (proper : Proper t) (ds : List ℕ) (long : l
         read-row fs firsts (getD (t .starts) k 0) noLink (start-has-row proper is-link),
         read-row fs firsts v noLink has-row,
       )
+
+  -- a link is usable by the mark of its end
+  pub usable-marked : {v mark : ℕ} → getD (t .ends) k 0 ≡ v → mark ≡ one (someLeads t v (getD (t .starts) k 0))
+      → usableBy mark (getD (t .costs) k 0) ≡ usable (netIn p t) k
+  unfolding usable
+  usable-marked {v} {mark} ends is = by (someLeads t v (getD (t .starts) k 0)) refl
+    where
+      by : (b : Bool) → b ≡ someLeads t v (getD (t .starts) k 0) → usableBy mark (getD (t .costs) k 0)
+          ≡ (ltb k (length (t .starts)) && ltb 0 (getD (t .costs) k 0) && someLeads t (getD (t .ends) k 0) (getD (t .starts) k 0))
+      by true e = rw (is, ends, ← e, lt-ltb k (length (t .starts)) is-link, and-true)
+      by false e = rw (is, ends, ← e, and-false)
+
+-- a link that is tight for a node ends there
+pub tight-ends : (mark v dist end cost from : ℕ) {b : Bool} → b ≡ tightBy mark v dist end cost from → b ≡ true → end ≡ v
+tight-ends mark v dist end cost from is passes = at (ℕ-discrete end v)
+  where
+    at : Dec (end ≡ v) → end ≡ v
+    at (yes e) = e
+    at (no n) = absurd (true≢false (sym passes ∙ is ∙ rw (ne-eqb end v n)))
 
 -- ---- a row by itself
 

@@ -1,11 +1,14 @@
 // The pass over the rows by which a tree is judged: which are right by themselves, what links offer left aside.
 ghost use mathlib.Core.Path.{_≡_};
 ghost use Prim.Native.Nat.{_<_};
-ghost use lib.ListN.{length};
-ghost use Rattle.rules.specs.Columns.{Proper, arrays, Whole, mostNodes, noLink};
+ghost use lib.ListN.{length, getD};
+ghost use Rattle.rules.specs.Keep.{one};
+ghost use Rattle.rules.specs.Columns.{Proper, arrays, Whole, mostNodes, noLink, someLeads};
 ghost use Rattle.rules.specs.Lent.{lent};
 ghost use Rattle.usable.specs.Standing.{givenTable, lentNet, lentDist, lentFirst, lentRows};
-ghost use Rattle.alone.specs.Alone.{emptyAt, tightBy, firstOf, hungBy, hungAlone, rowAlone, FirstWrong};
+ghost use Rattle.costs.specs.Costs.{costsOf};
+ghost use Rattle.backed.specs.Backed.{LedBack};
+ghost use Rattle.alone.specs.Alone.{emptyAt, tightBy, firstOf, usableBy, hungBy, hungAlone, rowAlone, FirstWrong};
 use rules::Profile;
 
 const NODES: usize = 256;
@@ -43,6 +46,17 @@ fn first_by(root: usize, parent: u16, start: usize, first: u16) -> u16
     if start == root { parent } else { first }
 }
 
+// A link is usable, where its mark tells whether it has a link back: 0 where it has none.
+fn usable_by(narrow: &[u16], wide: &[u32], k: usize, mark: u8) -> bool
+    requires { ⌜ k < length (costsOf (now narrow) (now wide)) ⌝ }
+    ensures { λ r. ⌜ r ≡ usableBy mark (getD (costsOf (lent narrow) (lent wide)) k 0) ⌝ }
+{
+    if mark == 0 {
+        return false;
+    }
+    usable::up(narrow, wide, k)
+}
+
 // Link `by` hangs node `v`, and makes its first link what it is. Whether it is usable is asked last.
 fn hung_by(
     profile: Profile,
@@ -56,8 +70,9 @@ fn hung_by(
     first: &[u16],
     by: u16,
     v: usize,
+    mark: u8,
 ) -> bool
-    requires { ⌜ Proper (givenTable nodes root starts ends narrow wide) × (length (now dist) ≡ mostNodes) × (length (now first) ≡ mostNodes) × (by < length (now starts)) × (v < mostNodes) ⌝ }
+    requires { ⌜ Proper (givenTable nodes root starts ends narrow wide) × (length (now dist) ≡ mostNodes) × (length (now first) ≡ mostNodes) × (by < length (now starts)) × (v < mostNodes) × (mark ≡ one (someLeads (givenTable nodes root starts ends narrow wide) v (getD (now starts) by 0))) ⌝ }
     ensures { λ r. ⌜ r ≡ hungBy (lentNet profile nodes root starts ends narrow wide) (lentDist profile dist) (lentFirst first) by v ⌝ }
 {
     let k = by as usize;
@@ -65,7 +80,7 @@ fn hung_by(
     let cost = costs::at(narrow, wide, k);
     if tight_by(profile.mark, v, dist[v], ends[k], cost, dist[from]) {
         if first[v] == first_by(root, by, from, first[from]) {
-            return usable::usable(profile, nodes, root, starts, ends, narrow, wide, k);
+            return usable_by(narrow, wide, k, mark);
         }
     }
     false
@@ -83,9 +98,10 @@ fn hung(
     dist: &[u32],
     parent: &[u16],
     first: &[u16],
+    backed: &[u8; 257],
     v: usize,
 ) -> bool
-    requires { ⌜ Proper (givenTable nodes root starts ends narrow wide) × Whole (arrays (now dist) (now parent) (now first)) × (v < mostNodes) ⌝ }
+    requires { ⌜ Proper (givenTable nodes root starts ends narrow wide) × Whole (arrays (now dist) (now parent) (now first)) × (v < mostNodes) × LedBack (givenTable nodes root starts ends narrow wide) (now parent) (now backed) ⌝ }
     ensures { λ r. ⌜ r ≡ hungAlone (lentNet profile nodes root starts ends narrow wide) (lentRows profile dist parent first) v ⌝ }
 {
     if nodes <= v {
@@ -110,6 +126,7 @@ fn hung(
         first,
         by,
         v,
+        backed[v],
     )
 }
 
@@ -125,9 +142,10 @@ fn row_right(
     dist: &[u32],
     parent: &[u16],
     first: &[u16],
+    backed: &[u8; 257],
     v: usize,
 ) -> bool
-    requires { ⌜ Proper (givenTable nodes root starts ends narrow wide) × Whole (arrays (now dist) (now parent) (now first)) × (v < mostNodes) ⌝ }
+    requires { ⌜ Proper (givenTable nodes root starts ends narrow wide) × Whole (arrays (now dist) (now parent) (now first)) × (v < mostNodes) × LedBack (givenTable nodes root starts ends narrow wide) (now parent) (now backed) ⌝ }
     ensures { λ r. ⌜ r ≡ rowAlone (lentNet profile nodes root starts ends narrow wide) (lentRows profile dist parent first) v ⌝ }
 {
     let d = dist[v];
@@ -150,6 +168,7 @@ fn row_right(
         dist,
         parent,
         first,
+        backed,
         v,
     )
 }
@@ -170,6 +189,7 @@ pub fn first_bad_row(
     requires { ⌜ Proper (givenTable nodes root starts ends narrow wide) × Whole (arrays (now dist) (now parent) (now first)) ⌝ }
     ensures { λ r. ⌜ FirstWrong (lentNet profile nodes root starts ends narrow wide) (lentRows profile dist parent first) r ⌝ }
 {
+    let backed = backed::led_back(nodes, root, starts, ends, narrow, wide, parent);
     let mut v: usize = 0;
     while v < NODES {
         if row_right(
@@ -183,6 +203,7 @@ pub fn first_bad_row(
             dist,
             parent,
             first,
+            &backed,
             v,
         ) {
             v += 1;

@@ -5,6 +5,7 @@ ghost use lib.ListN.{length};
 ghost use Rattle.rules.specs.Columns.{Proper, mostNodes};
 ghost use Rattle.rules.specs.Lent.{lent, left};
 ghost use Rattle.usable.specs.Standing.{givenTable, lentNet};
+ghost use Rattle.heads.specs.Heads.{Heads};
 ghost use Rattle.basics.specs.Tells.{Tells};
 ghost use Rattle.offer.specs.Offer.{Lined};
 ghost use Rattle.afoot.specs.Finding.{Carries};
@@ -34,11 +35,12 @@ pub fn carries(
     ends: &[u16],
     narrow: &[u16],
     wide: &[u32],
+    at: &[u16; 256],
     link: u16,
     v: usize,
     dist: &[u32; 256],
 ) -> bool
-    requires { ⌜ Proper (givenTable nodes root starts ends narrow wide) × (length (now dist) ≡ mostNodes) × (v < mostNodes) ⌝ }
+    requires { ⌜ Proper (givenTable nodes root starts ends narrow wide) × (length (now dist) ≡ mostNodes) × (v < mostNodes) × Heads (now starts) (now at) ⌝ }
     ensures { λ r. ⌜ Tells (Carries (lentNet profile nodes root starts ends narrow wide) (lent dist) link v) r ⌝ }
 {
     let k = link as usize;
@@ -51,7 +53,7 @@ pub fn carries(
     let from = starts[k] as usize;
     let cost = costs::at(narrow, wide, k);
     if enough(profile.mark, dist[from], cost, dist[v]) {
-        return usable::usable(profile, nodes, root, starts, ends, narrow, wide, k);
+        return usable::usable(profile, nodes, root, starts, ends, narrow, wide, at, k);
     }
     false
 }

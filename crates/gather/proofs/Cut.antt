@@ -30,7 +30,7 @@ module _ (t : Table) (old : Arrays) (list : List ℕ) where
     where
       at : (tree : Verdict) → (tree then refused 7 (only 0)) then when (ltb (length list) (t .nodes)) 12 ≡ accepted → ⊥
       at accepted e = not-refused e
-      at (refused number values) e = not-refused e
+      at (refused number value) e = not-refused e
 
 module _ {t : Table} {old : Arrays} {list : List ℕ} (batch : List Change) (most : ℕ) (enough : mostRows < most) where
   -- over so many rows

@@ -6,7 +6,9 @@ use mathlib.Core.List.{List}
 use Prim.Native.Nat.{ℕ, _+_, _≤_, _<_}
 use native.Mathlib.Omega.{arith}
 use native.Mathlib.Decide.{ℕ-discrete, decLt}
+use lib.Dec.{eqb}
 use lib.ListN.{length, getD, replicate}
+use borrow.Author.Tests.{eq-eqb, ne-eqb}
 use Rattle.rules.specs.Net.{Net, Legal, Usable}
 use Rattle.rules.specs.Fit.{Tight, Row, root, hung, bare}
 use Rattle.rules.specs.Keep.{Smallest}
@@ -17,22 +19,22 @@ use Rattle.basics.proofs.Arrays.{filled, leaving}
 use Rattle.sums.proofs.Distances.{root-not-tight, next-fresh}
 use Rattle.level.specs.Level.{Level, leveled, Ample}
 use Rattle.level.proofs.Laws as leveling
-use Rattle.queue.specs.Queue.{empty}
-use Rattle.heads.specs.Heads.{Heads}
+use Rattle.queue.specs.Queue.{empty, LeastKey}
 use Rattle.firsts.specs.FirstLinks.{FirstBy, Standing}
 use Rattle.firsts.proofs.Laws.{standing-firsts}
-use Rattle.keep.specs.Kept.{Holds}
+use Rattle.keep.specs.Kept.{Holds, StandingLinks}
 use Rattle.whole.proofs.Whole.{Hangable, Hanged, tight-holds, holds-tight, Best, finds, lacks, AllBest, AllPicked, on-old, on-none, Picked, picked-rising, hanged}
 use Rattle.offer.specs.Offer.{distAt, keyAt, foundAt, Lined}
 use Rattle.offer.proofs.Laws.{waits-now}
 use Rattle.afoot.specs.Afoot.{Every, Untouched, Calm, Partly, Settled, Fallen, same, lower, Fell}
 use Rattle.afoot.specs.Finding.{Moved, Finding, Found, hungBy, GoesOn, Heard, Comes, CalmOr}
-use Rattle.afoot.proofs.Offers.{fell-then}
-use Rattle.afoot.proofs.Finds.{finding-none, carries-still, carries-tight, on-fewer, on-then}
+use Rattle.afoot.proofs.Finds.{finding-none, carries-still, carries-tight}
+use Rattle.afoot.proofs.Heard.{heard-fewer, heard-then}
 use Rattle.afoot.proofs.Rounds.{lined-none, Alone, settled}
 use Rattle.lift.specs.Loose as loose
 use Rattle.lift.specs.Loose.{parentAt, Rooted, Parents, Stands, StandApart, Liftable, Lifted, Fate, stays, goes, Fates, LiftedRows, none, some}
-use Rattle.grow.specs.Grown.{Grown, Old, withCosts, Fitted, Regrown, AllCarried, Apart, Begun, Runs, rests, runs, Reseeded, still, moves}
+use Rattle.grow.proofs.Open.{Alike, alike}
+use Rattle.grow.specs.Grown.{Grown, Old, withCosts, Fitted, Regrown, AllCarried, Apart, Begun, Reseeded, still, moves}
 
 -- ---- an accepted table's network, and the numbers
 
@@ -73,14 +75,17 @@ module _ (p : Profile) {t : Table} {rows : List ℕ} {tree : Arrays} (f : Fitted
   abbrev M : Net
   M = netIn p (withCosts t (f .costs))
 
-  usable-before : (k : ℕ) → Untouched rows 0 k → Usable N k → Usable M k
+  still-alike : (k : ℕ) → Untouched N rows 0 k → Alike M N k
+  still-alike k apart = alike t (f .costs) rows (f .same) p k apart
+
+  usable-before : (k : ℕ) → Untouched N rows 0 k → Usable N k → Usable M k
   usable-before k apart u =
-      let e = f .same k apart in
+      let e = still-alike k apart in
       record { is-link = u .is-link; costs = omega (arith, e .cost, u .costs); open-is = e .is-open ∙ u .open-is }
 
-  usable-still : (k : ℕ) → Untouched rows 0 k → Usable M k → Usable N k
+  usable-still : (k : ℕ) → Untouched N rows 0 k → Usable M k → Usable N k
   usable-still k apart u =
-      let e = f .same k apart in
+      let e = still-alike k apart in
       record { is-link = u .is-link; costs = omega (arith, e .cost, u .costs); open-is = sym (e .is-open) ∙ u .open-is }
 
   pub parents : Parents N (tree .parent)
@@ -98,7 +103,7 @@ module _ (p : Profile) {t : Table} {rows : List ℕ} {tree : Arrays} (f : Fitted
         let r = ready p level (f .old) in
         record { lined = r .lined; root-zero = r .root-zero; root-idle = r .none-waits (t .root); standing = λ v u. at u (f .fits .row v) }
       where
-        at : {v : ℕ} → Untouched rows 0 (parentAt N (tree .parent) v) → Row M (rowsIn p tree) v
+        at : {v : ℕ} → Untouched N rows 0 (parentAt N (tree .parent) v) → Row M (rowsIn p tree) v
             → Stands N (tree .parent) (tree .dist) (replicate 256 empty) v
         at u (root r) = loose.root (r .is-root)
         at u (bare b) = loose.bare (b .unreached)
@@ -109,16 +114,16 @@ module _ (p : Profile) {t : Table} {rows : List ℕ} {tree : Arrays} (f : Fitted
               usable = usable-still k u (tight .usable);
               ends-at = tight .ends-at;
               reached = omega (arith, tight .from-reached, f .old .most (N .start k));
-              enough = omega (arith, tight .sum, f .same k u .cost);
+              enough = omega (arith, tight .sum, still-alike k u .cost);
             })
 
     -- a link that no row touches offers nothing less than before
-    no-less : (k : ℕ) → Usable N k → Untouched rows 0 k → distAt N (tree .dist) (N .start k) < N .mark
+    no-less : (k : ℕ) → Usable N k → Untouched N rows 0 k → distAt N (tree .dist) (N .start k) < N .mark
         → distAt N (tree .dist) (N .end k) ≤ distAt N (tree .dist) (N .start k) + N .cost k
     no-less k u apart near = at (f .fits .row (N .end k)) (decLt (distAt N (tree .dist) (N .start k) + M .cost k) (N .mark))
       where
         cost : M .cost k ≡ N .cost k
-        cost = f .same k apart .cost
+        cost = still-alike k apart .cost
 
         usable : Usable M k
         usable = usable-before k apart u
@@ -133,35 +138,31 @@ module _ (p : Profile) {t : Table} {rows : List ℕ} {tree : Arrays} (f : Fitted
             absurd (b .no-offer k (record { usable = usable; ends-at = refl; from-reached = λ e. omega arith; counts = omega (arith, level .level) }))
 
     -- after lifting, a link that no row touches is calm, or leads to a lifted node
-    pub lifted-apart : {at dist first keys : List ℕ} {lifted : Bool} → LiftedRows N (t .starts) (tree .dist) (tree .first) at dist first lifted
+    pub lifted-apart : {dist first keys : List ℕ} {lifted : Bool} → LiftedRows N (tree .dist) (tree .first) dist first lifted
         → Apart N rows dist keys lifted first
     lifted-apart {keys = keys} (none d e) = record { apart = λ k u apart. inl (rw d (record { calm = λ rest near. no-less k u apart near })) }
-    lifted-apart {dist = dist} {first = first} {keys = keys} (some heads fates) = record { apart = λ k u apart. by k u apart (fates .each (N .end k)) }
+    lifted-apart {dist = dist} {first = first} {keys = keys} (some fates) = record { apart = λ k u apart. by k u apart (fates .each (N .end k)) }
       where
-        start : (k : ℕ) → Usable N k → Untouched rows 0 k → Fate N (tree .dist) dist first (N .start k)
+        start : (k : ℕ) → Usable N k → Untouched N rows 0 k → Fate N (tree .dist) dist first (N .start k)
             → distAt N dist (N .end k) ≡ distAt N (tree .dist) (N .end k) → distAt N dist (N .start k) < N .mark
             → distAt N dist (N .end k) ≤ distAt N dist (N .start k) + N .cost k
         start k u apart (stays s) e near = omega (arith, no-less k u apart (omega arith))
         start k u apart (goes s g) e near = absurd (omega arith)
 
-        by : (k : ℕ) → Usable N k → Untouched rows 0 k → Fate N (tree .dist) dist first (N .end k) → CalmOr N dist keys true first k
+        by : (k : ℕ) → Usable N k → Untouched N rows 0 k → Fate N (tree .dist) dist first (N .end k) → CalmOr N dist keys true first k
         by k u apart (stays e) = inl (record { calm = λ rest near. start k u apart (fates .each (N .start k)) e near })
         by k u apart (goes e g) = inr (refl, g)
 
 -- ---- seeds of an old tree
 
-module _ {N : Net} {starts dist first at dist' first' : List ℕ} where
-  pub was-lifted : {lifted : Bool} → LiftedRows N starts dist first at dist' first' lifted → lifted ≡ true → Heads starts at
-  was-lifted (none d e) q = absurd (true-false (sym q))
-  was-lifted (some heads fates) q = heads
-
-  pub not-lifted : {lifted : Bool} → LiftedRows N starts dist first at dist' first' lifted → lifted ≡ false → (dist' ≡ dist) × (first' ≡ first)
+module _ {N : Net} {dist first dist' first' : List ℕ} where
+  pub not-lifted : {lifted : Bool} → LiftedRows N dist first dist' first' lifted → lifted ≡ false → (dist' ≡ dist) × (first' ≡ first)
   not-lifted (none d e) q = (d, e)
-  not-lifted (some heads fates) q = absurd (true-false q)
+  not-lifted (some fates) q = absurd (true-false q)
 
-  pub lifted-long : {lifted : Bool} → LiftedRows N starts dist first at dist' first' lifted → length first ≡ mostNodes → length first' ≡ mostNodes
+  pub lifted-long : {lifted : Bool} → LiftedRows N dist first dist' first' lifted → length first ≡ mostNodes → length first' ≡ mostNodes
   lifted-long (none d e) long = rw e long
-  lifted-long (some heads fates) long = fates .long
+  lifted-long (some fates) long = fates .long
 
 pub carried-all : {N : Net} {parent dist keys mins : List ℕ} → Lifted N parent dist keys mins → AllCarried N parent dist
 carried-all l = record { carried = l .carried }
@@ -173,12 +174,11 @@ pub seeded : {N : Net} {parent dist keys dist' keys' mins' found' : List ℕ} {d
 seeded {N} {dist = dist} c p g =
     record { stood = dist; carried = c; afoot = p; finding = g .on dist (finding-none (filled 256 (N .none))); found-long = g .long }
 
--- the links into lifted nodes are offered, then those of the rows
+-- the links into lifted nodes are offered, then those that the rows touch
 pub heard-both : {N : Net} {rows dist keys first found dist' keys' mins' found' dist'' keys'' mins'' found'' : List ℕ} {lifted : Bool}
     → Apart N rows dist keys lifted first → Heard N (Calm N dist keys) dist keys found (CalmOr N dist keys lifted first) dist' keys' mins' found'
-    → Heard N (Untouched rows 0) dist' keys' found' Every dist'' keys'' mins'' found'' → Heard N (Calm N dist keys) dist keys found Every dist'' keys'' mins'' found''
-heard-both a into rows =
-    record { partly = rows .partly; fell = fell-then (into .fell) (rows .fell); goes-on = on-then (on-fewer (a .apart) (into .goes-on)) (rows .goes-on) }
+    → Heard N (Untouched N rows 0) dist' keys' found' Every dist'' keys'' mins'' found'' → Heard N (Calm N dist keys) dist keys found Every dist'' keys'' mins'' found''
+heard-both a into rows = heard-then (heard-fewer into (a .apart)) rows
 
 -- where nothing waits no node has fallen
 pub unmoved : {N : Net} {dist keys mins dist' keys' : List ℕ} → Lined (N .mark) dist keys mins → Fell N dist keys dist' keys'
@@ -232,23 +232,37 @@ module _ (p : Profile) {t : Table} (proper : Proper t) (level : Level (netIn p t
       → AllBest net far (λ v. Unit {0}) found
   built-best alone c = all-best (c .comes _ (finding-none (filled 256 noLink))) (c .long) (λ v a n l. omega (arith, alone .far v n))
 
-  -- each reached node is carried to begin with: one that hasn't moved is on a tight link
-  pub kept-best : {parent dist₁ keys₁ mins₁ found₁ found : List ℕ} → Begun net parent dist₁ keys₁ mins₁ found₁ → Comes net dist₁ keys₁ found₁ dist found
-      → AllBest net far (λ v. ¬ (Holds net far v (getD parent v noLink))) found
-  kept-best {parent} {found = found} begun c =
-      all-best f (c .long) (λ v loose n l. at v loose n l (decLt (distAt net dist v) (distAt net (begun .stood) v)))
-    where
-      f : Found net (begun .stood) dist found
-      f = c .comes (begun .stood) (begun .finding)
+  module _ {parent dist₁ keys₁ mins₁ found₁ found : List ℕ} (begun : Begun net parent dist₁ keys₁ mins₁ found₁)
+      (c : Comes net dist₁ keys₁ found₁ dist found) where
+    came : Found net (begun .stood) dist found
+    came = c .comes (begun .stood) (begun .finding)
 
-      at : (v : ℕ) → ¬ (Holds net far v (getD parent v noLink)) → v ≢ t .root → far v < p .mark
-          → Dec (distAt net dist v < distAt net (begun .stood) v) → Moved net (begun .stood) dist v
-      at v loose n l (yes less) = less
-      at v loose n l (no not-less) =
-          let stays : distAt net dist v ≡ distAt net (begun .stood) v = omega (arith, f .fell v) in
-          let carries = carries-still (f .fell) stays (begun .carried .carried v (omega arith) n) in
-          let tight = carries-tight level (foundAt net found) (foundAt net found) s (record { comes = l; carries = carries }) in
-          absurd (loose (tight-holds p t dist found found (λ e. omega arith) tight))
+    -- each reached node is carried to begin with: one that hasn't moved is on a tight link
+    unmoved-held : (v : ℕ) → v ≢ t .root → far v < p .mark → ¬ (Moved net (begun .stood) dist v) → Holds net far v (getD parent v noLink)
+    unmoved-held v n l not-less =
+        let stays : distAt net dist v ≡ distAt net (begun .stood) v = omega (arith, came .fell v) in
+        let carries = carries-still (came .fell) stays (begun .carried .carried v (omega arith) n) in
+        let tight = carries-tight level (foundAt net found) (foundAt net found) s (record { comes = l; carries = carries }) in
+        tight-holds p t dist found found (λ e. omega arith) tight
+
+    pub kept-best : AllBest net far (λ v. ¬ (Holds net far v (getD parent v noLink))) found
+    kept-best = all-best came (c .long) (λ v loose n l. at v loose n l (decLt (distAt net dist v) (distAt net (begun .stood) v)))
+      where
+        at : (v : ℕ) → ¬ (Holds net far v (getD parent v noLink)) → v ≢ t .root → far v < p .mark
+            → Dec (distAt net dist v < distAt net (begun .stood) v) → Moved net (begun .stood) dist v
+        at v loose n l (yes less) = less
+        at v loose n l (no not-less) = absurd (loose (unmoved-held v n l not-less))
+
+    -- so is one for which no link was found
+    pub standing-links : Rooted net parent → StandingLinks net far found parent
+    standing-links rooted = record { each = λ v. record { held = λ lacks-one reached has. at v lacks-one reached has (ℕ-discrete v (t .root)) } }
+      where
+        moved-found : (v : ℕ) → foundAt net found v ≡ noLink → ¬ (Moved net (begun .stood) dist v)
+        moved-found v lacks-one moved = let k = came .smallest v moved .tight .usable .is-link in omega (arith, proper .few-links)
+
+        at : (v : ℕ) → foundAt net found v ≡ noLink → far v ≢ p .mark → getD parent v noLink ≢ noLink → Dec (v ≡ t .root) → Holds net far v (getD parent v noLink)
+        at v lacks-one reached has (yes e) = absurd (has (rw e (rooted .no-parent)))
+        at v lacks-one reached has (no n) = unmoved-held v n (near v reached) (moved-found v lacks-one)
 
   -- ---- whole trees
 
@@ -297,27 +311,40 @@ module _ (p : Profile) {t : Table} (proper : Proper t) (level : Level (netIn p t
 
 -- ---- whether the loop has to run
 
-pub reseeded : {N : Net} {starts parent dist keys mins found tree-dist tree-first at first dist' keys' mins' found' at' : List ℕ} {lifted answer : Bool}
-    → Level N → Lifted N parent dist keys mins → LiftedRows N starts tree-dist tree-first at dist first lifted → length first ≡ mostNodes
-    → Heard N (Calm N dist keys) dist keys found Every dist' keys' mins' found' → Runs starts mins' lifted at' answer
-    → Reseeded N starts parent tree-dist tree-first at' dist' first keys' mins' answer
-reseeded level l r long heard (rests e least) =
+reseeded-still : {N : Net} {parent dist keys mins found tree-dist tree-first first dist' keys' mins' found' : List ℕ} {lifted : Bool}
+    → Level N → Lifted N parent dist keys mins → LiftedRows N tree-dist tree-first dist first lifted → lifted ≡ false
+    → Heard N (Calm N dist keys) dist keys found Every dist' keys' mins' found' → LeastKey mins' empty
+    → Reseeded N parent tree-dist tree-first dist' first keys' mins' false
+reseeded-still level l r e heard least =
     let none = not-lifted r e in
     let settled = settled level (heard .partly) least refl in
     let equal = unmoved (l .begun .lined) (heard .fell) (settled .none-waits) in
     still settled (rw (none .0) at (carried-all l)) (rw (none .0) at equal) (none .1)
-reseeded level l r long heard (runs heads) = moves heads long
 
-pub has-to-run : {N : Net} {starts parent dist first at dist' first' keys' mins' : List ℕ} {runs : Bool}
-    → Reseeded N starts parent dist first at dist' first' keys' mins' runs → not runs ≡ false → Heads starts at × (length first' ≡ mostNodes)
+by-key : (Says : Bool → Type 0) (key : ℕ) → (key ≡ empty → Says false) → Says true → Says (not (eqb key empty))
+by-key Says key rests runs = at (ℕ-discrete key empty)
+  where
+    at : Dec (key ≡ empty) → Says (not (eqb key empty))
+    at (yes e) = rw (eq-eqb key empty e) (rests e)
+    at (no n) = rw (ne-eqb key empty n) runs
+
+pub reseeded : {N : Net} {parent dist keys mins found tree-dist tree-first first dist' keys' mins' found' : List ℕ} {lifted : Bool} {key : ℕ}
+    → Level N → Lifted N parent dist keys mins → LiftedRows N tree-dist tree-first dist first lifted → lifted ≡ false → length first ≡ mostNodes
+    → Heard N (Calm N dist keys) dist keys found Every dist' keys' mins' found' → LeastKey mins' key
+    → Reseeded N parent tree-dist tree-first dist' first keys' mins' (not (eqb key empty))
+reseeded {N} {parent} {tree-dist = tree-dist} {tree-first = tree-first} {first = first} {dist' = dist'} {keys' = keys'} {mins' = mins'} {key = key} level l r e long heard least =
+    by-key (Reseeded N parent tree-dist tree-first dist' first keys' mins') key (λ q. reseeded-still level l r e heard (rw q at least)) (moves long)
+
+pub has-to-run : {N : Net} {parent dist first dist' first' keys' mins' : List ℕ} {runs : Bool}
+    → Reseeded N parent dist first dist' first' keys' mins' runs → not runs ≡ false → length first' ≡ mostNodes
 has-to-run (still s c e f) q = absurd (true-false q)
-has-to-run (moves heads long) q = (heads, long)
+has-to-run (moves long) q = long
 
-pub regrown-stopped : (p : Profile) {t : Table} {rows : List ℕ} {tree : Arrays} {at dist first keys mins : List ℕ} {runs : Bool} → Proper t → Level (netIn p t)
-    → Fitted p t rows tree → Reseeded (netIn p t) (t .starts) (tree .parent) (tree .dist) (tree .first) at dist first keys mins runs → not runs ≡ true
+pub regrown-stopped : (p : Profile) {t : Table} {rows : List ℕ} {tree : Arrays} {dist first keys mins : List ℕ} {runs : Bool} → Proper t → Level (netIn p t)
+    → Fitted p t rows tree → Reseeded (netIn p t) (tree .parent) (tree .dist) (tree .first) dist first keys mins runs → not runs ≡ true
     → Regrown p t (tree .parent) (arrays dist (tree .parent) first)
 regrown-stopped p proper level f (still s c e g) q = rw g (regrown-still p proper level s f c e)
-regrown-stopped p proper level f (moves heads long) q = absurd (true-false (sym q))
+regrown-stopped p proper level f (moves long) q = absurd (true-false (sym q))
 
 -- ---- where the mark is taken for the ceiling
 
@@ -333,7 +360,7 @@ module _ (p : Profile) {t : Table} (proper : Proper t) (ample : Ample (netIn p t
     old = old-down (f .old);
     named = f .named;
     costs = f .costs;
-    same = λ k u. record { cost = f .same k u .cost; is-open = f .same k u .is-open };
+    same = f .same;
     fits = leveling.fits-down (ample .high) (f .old .most) (f .fits);
   }
 

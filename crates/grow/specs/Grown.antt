@@ -10,8 +10,6 @@ use Rattle.rules.specs.Fit.{Fits}
 use Rattle.rules.specs.Keep.{Fresh, Next}
 use Rattle.rules.specs.Columns.{Table, Arrays, Whole, table, netIn, rowsIn, mostNodes, noLink}
 use Rattle.rules.specs.declared.Profile.{Profile}
-use Rattle.queue.specs.Queue.{empty, LeastKey}
-use Rattle.heads.specs.Heads.{Heads}
 use Rattle.offer.specs.Offer.{distAt}
 use Rattle.afoot.specs.Afoot.{Every, Untouched, Naming, Afoot, Settled}
 use Rattle.afoot.specs.Finding.{Carries, Finding, CalmOr}
@@ -32,17 +30,12 @@ pub record Old (p : Profile) (t : Table) (tree : Arrays) : Type 0 where
 abbrev pub withCosts : Table → List ℕ → Table
 withCosts t costs = table (t .nodes) (t .root) (t .starts) (t .ends) costs
 
--- link k is in one network what it is in another
-pub record Alike (M N : Net) (k : ℕ) : Type 0 where
-  pub cost : M .cost k ≡ N .cost k
-  pub is-open : M .is-open k ≡ N .is-open k
-
--- the rows name links of the table, and the tree fitted while those that they touch had other costs
+-- the rows name links of the table, and the tree fitted while those had other costs
 pub record Fitted (p : Profile) (t : Table) (rows : List ℕ) (tree : Arrays) : Type 0 where
   pub old : Old p t tree
   pub named : Naming (length (t .starts)) rows
   pub costs : List ℕ
-  pub same : (k : ℕ) → Untouched rows 0 k → Alike (netIn p (withCosts t costs)) (netIn p t) k
+  pub same : (k : ℕ) → ((m : ℕ) → m < length rows → getD rows m 0 ≢ k) → getD costs k 0 ≡ getD (t .costs) k 0
   pub fits : Fits (netIn p (withCosts t costs)) (rowsIn p tree)
 
 pub record Regrown (p : Profile) (t : Table) (old : List ℕ) (tree : Arrays) : Type 0 where
@@ -57,7 +50,7 @@ pub record AllCarried (N : Net) (parent dist : List ℕ) : Type 0 where
 
 -- a link that no row touches has nothing less to offer, or leads to a lifted node
 pub record Apart (N : Net) (rows dist keys : List ℕ) (lifted : Bool) (first : List ℕ) : Type 0 where
-  pub apart : (k : ℕ) → Usable N k → Untouched rows 0 k → CalmOr N dist keys lifted first k
+  pub apart : (k : ℕ) → Usable N k → Untouched N rows 0 k → CalmOr N dist keys lifted first k
 
 -- the loop can start: the nodes were carried while they had the distances that stood, and what is known of the links
 -- found since
@@ -68,13 +61,8 @@ pub record Begun (N : Net) (parent dist keys mins found : List ℕ) : Type 0 whe
   pub finding : Finding N Every stood dist keys found
   pub found-long : length found ≡ mostNodes
 
--- whether the loop has to run: nodes were lifted, or some wait; and then at' has each node's first leaving link
-pub data Runs (starts mins : List ℕ) (lifted : Bool) (at' : List ℕ) : Bool → Type 0 where
-  rests : lifted ≡ false → LeastKey mins empty → Runs starts mins lifted at' false
-  runs : Heads starts at' → Runs starts mins lifted at' true
-
 -- what the answer says: nothing changed, and nothing waits; or the loop has to run
-pub data Reseeded (N : Net) (starts parent dist first at' dist' first' keys' mins' : List ℕ) : Bool → Type 0 where
+pub data Reseeded (N : Net) (parent dist first dist' first' keys' mins' : List ℕ) : Bool → Type 0 where
   still : Settled N dist' keys' mins' → AllCarried N parent dist → ((v : ℕ) → distAt N dist' v ≡ distAt N dist v) → first' ≡ first
-      → Reseeded N starts parent dist first at' dist' first' keys' mins' false
-  moves : Heads starts at' → length first' ≡ mostNodes → Reseeded N starts parent dist first at' dist' first' keys' mins' true
+      → Reseeded N parent dist first dist' first' keys' mins' false
+  moves : length first' ≡ mostNodes → Reseeded N parent dist first dist' first' keys' mins' true

@@ -4,18 +4,18 @@
 // first links are the guesses of the nodes that don't move. Inside, the mark is the ceiling: the public functions show
 // that this makes no other tree.
 ghost use mathlib.Core.Path.{_≡_};
-ghost use mathlib.Core.Bool.{true};
 ghost use lib.ListN.{length, replicate};
 ghost use Rattle.rules.specs.Columns.{Proper, Whole, mostNodes, noLink};
 ghost use Rattle.rules.specs.Lent.{treeAt, leftTree, lent, left};
 ghost use Rattle.usable.specs.Standing.{givenTable, givenNet, lentTableAt, lentNet};
-ghost use Rattle.basics.specs.Leaving.{Leaving};
 ghost use Rattle.level.specs.Level.{Level, Ample};
 ghost use Rattle.queue.specs.Queue.{empty};
 ghost use Rattle.heads.specs.Heads.{Heads};
+ghost use Rattle.asked.specs.Asked.{Kept};
 ghost use Rattle.afoot.specs.Afoot.{Seeded, Calm, Every, Naming};
 ghost use Rattle.afoot.specs.Finding.{Heard};
-ghost use Rattle.grow.specs.Grown.{Grown, Old, Fitted, Regrown, Apart, Begun, Runs, Reseeded};
+ghost use Rattle.lift.specs.Loose.{Rooted};
+ghost use Rattle.grow.specs.Grown.{Grown, Old, Fitted, Regrown, Apart, Begun, Reseeded};
 use rules::NO_LINK;
 use rules::Profile;
 
@@ -39,6 +39,7 @@ fn grow_level(
     *parent = [NO_LINK; 256];
     *first = [NO_LINK; 256];
     let at = heads::first_links(starts);
+    let mut asked = [NO_LINK; 256];
     let mut keys = [queue::EMPTY; 256];
     let mut mins = [queue::EMPTY; 72];
     offer::seed(root, dist, &mut keys, &mut mins);
@@ -51,6 +52,7 @@ fn grow_level(
         narrow,
         wide,
         &at,
+        &mut asked,
         dist,
         &mut keys,
         &mut mins,
@@ -70,6 +72,7 @@ fn finish(
     narrow: &[u16],
     wide: &[u32],
     at: &[u16; 256],
+    asked: &mut [u16; 256],
     dist: &mut [u32; 256],
     keys: &mut [u64; 256],
     mins: &mut [u64; 72],
@@ -77,7 +80,7 @@ fn finish(
     parent: &mut [u16; 256],
     first: &mut [u16; 256],
 )
-    requires { ⌜ Proper (givenTable nodes root starts ends narrow wide) × Level (givenNet profile nodes root starts ends narrow wide) × Heads (now starts) (now at) × Begun (givenNet profile nodes root starts ends narrow wide) (now parent) (now dist) (now keys) (now mins) (now found) × (length (now parent) ≡ mostNodes) × (length (now first) ≡ mostNodes) ⌝ }
+    requires { ⌜ Proper (givenTable nodes root starts ends narrow wide) × Level (givenNet profile nodes root starts ends narrow wide) × Heads (now starts) (now at) × Begun (givenNet profile nodes root starts ends narrow wide) (now parent) (now dist) (now keys) (now mins) (now found) × Rooted (givenNet profile nodes root starts ends narrow wide) (now parent) × (length (now first) ≡ mostNodes) × Kept (givenTable nodes root starts ends narrow wide) (now asked) ⌝ }
     ensures { λ _. ⌜ Regrown profile (lentTableAt nodes root starts ends narrow wide) (lent parent) (leftTree dist parent first) ⌝ }
 {
     settle::settle(
@@ -89,6 +92,7 @@ fn finish(
         narrow,
         wide,
         at,
+        asked,
         dist,
         keys,
         mins,
@@ -103,6 +107,7 @@ fn finish(
         ends,
         narrow,
         wide,
+        at,
         dist,
         found,
         parent,
@@ -110,7 +115,7 @@ fn finish(
     firsts::renew_firsts(nodes, root, starts, dist, parent, first);
 }
 
-// The links into lifted nodes are offered, and those of the rows: no other can offer less.
+// The links into lifted nodes are offered, and those that the rows touch: no other can offer less.
 fn offer_touched(
     profile: Profile,
     nodes: usize,
@@ -119,6 +124,8 @@ fn offer_touched(
     ends: &[u16],
     narrow: &[u16],
     wide: &[u32],
+    at: &[u16; 256],
+    asked: &mut [u16; 256],
     changed: &[u16],
     lifted: bool,
     first: &[u16; 256],
@@ -127,8 +134,8 @@ fn offer_touched(
     mins: &mut [u64; 72],
     found: &mut [u16; 256],
 )
-    requires { ⌜ Proper (givenTable nodes root starts ends narrow wide) × Seeded (givenNet profile nodes root starts ends narrow wide) (now dist) (now keys) (now mins) × Naming (length (now starts)) (now changed) × Apart (givenNet profile nodes root starts ends narrow wide) (now changed) (now dist) (now keys) lifted (now first) × (length (now first) ≡ mostNodes) × (length (now found) ≡ mostNodes) ⌝ }
-    ensures { λ _. ⌜ Heard (lentNet profile nodes root starts ends narrow wide) (Calm (lentNet profile nodes root starts ends narrow wide) (lent dist) (lent keys)) (lent dist) (lent keys) (lent found) Every (left dist) (left keys) (left mins) (left found) ⌝ }
+    requires { ⌜ Proper (givenTable nodes root starts ends narrow wide) × Seeded (givenNet profile nodes root starts ends narrow wide) (now dist) (now keys) (now mins) × Naming (length (now starts)) (now changed) × Apart (givenNet profile nodes root starts ends narrow wide) (now changed) (now dist) (now keys) lifted (now first) × (length (now first) ≡ mostNodes) × (length (now found) ≡ mostNodes) × Heads (now starts) (now at) × Kept (givenTable nodes root starts ends narrow wide) (now asked) ⌝ }
+    ensures { λ _. ⌜ Heard (lentNet profile nodes root starts ends narrow wide) (Calm (lentNet profile nodes root starts ends narrow wide) (lent dist) (lent keys)) (lent dist) (lent keys) (lent found) Every (left dist) (left keys) (left mins) (left found) × Kept (lentTableAt nodes root starts ends narrow wide) (left asked) ⌝ }
 {
     settle::offer_into(
         profile,
@@ -138,6 +145,8 @@ fn offer_touched(
         ends,
         narrow,
         wide,
+        at,
+        asked,
         lifted,
         first,
         dist,
@@ -153,6 +162,8 @@ fn offer_touched(
         ends,
         narrow,
         wide,
+        at,
+        asked,
         changed,
         dist,
         keys,
@@ -161,23 +172,8 @@ fn offer_touched(
     );
 }
 
-// Whether the loop has to run. Where nodes were lifted, `at` is filled.
-fn goes_on(lifted: bool, starts: &[u16], at: &mut [u16; 256], mins: &[u64; 72]) -> bool
-    requires { ⌜ Leaving (now starts) × (lifted ≡ true → Heads (now starts) (now at)) ⌝ }
-    ensures { λ r. ⌜ Runs (lent starts) (lent mins) lifted (left at) r ⌝ }
-{
-    if lifted {
-        return true;
-    }
-    if queue::least(mins) == queue::EMPTY {
-        return false;
-    }
-    *at = heads::first_links(starts);
-    true
-}
-
 // The seed after a batch: what the rows' links no longer carry is lifted, and what the batch touched is offered. Tells
-// whether the loop has to run: a batch that lifts nothing and lowers nothing changes nothing. `at` is filled where it has.
+// whether the loop has to run: a batch that lifts nothing and lowers nothing changes nothing.
 fn reseed(
     profile: Profile,
     nodes: usize,
@@ -187,7 +183,8 @@ fn reseed(
     narrow: &[u16],
     wide: &[u32],
     changed: &[u16],
-    at: &mut [u16; 256],
+    at: &[u16; 256],
+    asked: &mut [u16; 256],
     parent: &[u16; 256],
     dist: &mut [u32; 256],
     first: &mut [u16; 256],
@@ -195,8 +192,8 @@ fn reseed(
     mins: &mut [u64; 72],
     found: &mut [u16; 256],
 ) -> bool
-    requires { ⌜ Proper (givenTable nodes root starts ends narrow wide) × Level (givenNet profile nodes root starts ends narrow wide) × Fitted profile (givenTable nodes root starts ends narrow wide) (now changed) (treeAt dist parent first) × (now keys ≡ replicate 256 empty) × (now mins ≡ replicate 72 empty) × (now found ≡ replicate 256 noLink) ⌝ }
-    ensures { λ r. ⌜ Begun (lentNet profile nodes root starts ends narrow wide) (lent parent) (left dist) (left keys) (left mins) (left found) × Reseeded (lentNet profile nodes root starts ends narrow wide) (lent starts) (lent parent) (lent dist) (lent first) (left at) (left dist) (left first) (left keys) (left mins) r ⌝ }
+    requires { ⌜ Proper (givenTable nodes root starts ends narrow wide) × Level (givenNet profile nodes root starts ends narrow wide) × Fitted profile (givenTable nodes root starts ends narrow wide) (now changed) (treeAt dist parent first) × (now keys ≡ replicate 256 empty) × (now mins ≡ replicate 72 empty) × (now found ≡ replicate 256 noLink) × Heads (now starts) (now at) × Kept (givenTable nodes root starts ends narrow wide) (now asked) ⌝ }
+    ensures { λ r. ⌜ Begun (lentNet profile nodes root starts ends narrow wide) (lent parent) (left dist) (left keys) (left mins) (left found) × Reseeded (lentNet profile nodes root starts ends narrow wide) (lent parent) (lent dist) (lent first) (left dist) (left first) (left keys) (left mins) r × Kept (lentTableAt nodes root starts ends narrow wide) (left asked) ⌝ }
 {
     let lifted = lift::lift_rows(
         profile,
@@ -222,6 +219,8 @@ fn reseed(
         ends,
         narrow,
         wide,
+        at,
+        asked,
         changed,
         lifted,
         first,
@@ -230,7 +229,10 @@ fn reseed(
         mins,
         found,
     );
-    goes_on(lifted, starts, at, mins)
+    if lifted {
+        return true;
+    }
+    queue::least(mins) != queue::EMPTY
 }
 
 // The next tree, where the arrays come in as one that fitted before, and `changed` names the links whose cost is another.
@@ -250,7 +252,8 @@ fn regrow_level(
     requires { ⌜ Proper (givenTable nodes root starts ends narrow wide) × Level (givenNet profile nodes root starts ends narrow wide) × Fitted profile (givenTable nodes root starts ends narrow wide) (now changed) (treeAt dist parent first) ⌝ }
     ensures { λ _. ⌜ Regrown profile (lentTableAt nodes root starts ends narrow wide) (lent parent) (leftTree dist parent first) ⌝ }
 {
-    let mut at = [NO_LINK; 256];
+    let at = heads::first_links(starts);
+    let mut asked = [NO_LINK; 256];
     let mut keys = [queue::EMPTY; 256];
     let mut mins = [queue::EMPTY; 72];
     let mut found = [NO_LINK; 256];
@@ -263,7 +266,8 @@ fn regrow_level(
         narrow,
         wide,
         changed,
-        &mut at,
+        &at,
+        &mut asked,
         parent,
         dist,
         first,
@@ -283,6 +287,7 @@ fn regrow_level(
         narrow,
         wide,
         &at,
+        &mut asked,
         dist,
         &mut keys,
         &mut mins,
@@ -302,6 +307,7 @@ fn reseed_all(
     narrow: &[u16],
     wide: &[u32],
     at: &[u16; 256],
+    asked: &mut [u16; 256],
     parent: &[u16; 256],
     dist: &mut [u32; 256],
     first: &mut [u16; 256],
@@ -309,8 +315,8 @@ fn reseed_all(
     mins: &mut [u64; 72],
     found: &mut [u16; 256],
 )
-    requires { ⌜ Proper (givenTable nodes root starts ends narrow wide) × Level (givenNet profile nodes root starts ends narrow wide) × Heads (now starts) (now at) × Old profile (givenTable nodes root starts ends narrow wide) (treeAt dist parent first) × (now keys ≡ replicate 256 empty) × (now mins ≡ replicate 72 empty) × (now found ≡ replicate 256 noLink) ⌝ }
-    ensures { λ _. ⌜ Begun (lentNet profile nodes root starts ends narrow wide) (lent parent) (left dist) (left keys) (left mins) (left found) × (length (left first) ≡ mostNodes) ⌝ }
+    requires { ⌜ Proper (givenTable nodes root starts ends narrow wide) × Level (givenNet profile nodes root starts ends narrow wide) × Heads (now starts) (now at) × Old profile (givenTable nodes root starts ends narrow wide) (treeAt dist parent first) × (now keys ≡ replicate 256 empty) × (now mins ≡ replicate 72 empty) × (now found ≡ replicate 256 noLink) × Kept (givenTable nodes root starts ends narrow wide) (now asked) ⌝ }
+    ensures { λ _. ⌜ Begun (lentNet profile nodes root starts ends narrow wide) (lent parent) (left dist) (left keys) (left mins) (left found) × (length (left first) ≡ mostNodes) × Kept (lentTableAt nodes root starts ends narrow wide) (left asked) ⌝ }
 {
     lift::lift(
         profile,
@@ -336,6 +342,8 @@ fn reseed_all(
         ends,
         narrow,
         wide,
+        at,
+        asked,
         true,
         first,
         dist,
@@ -362,6 +370,7 @@ fn mend_level(
     ensures { λ _. ⌜ Regrown profile (lentTableAt nodes root starts ends narrow wide) (lent parent) (leftTree dist parent first) ⌝ }
 {
     let at = heads::first_links(starts);
+    let mut asked = [NO_LINK; 256];
     let mut keys = [queue::EMPTY; 256];
     let mut mins = [queue::EMPTY; 72];
     let mut found = [NO_LINK; 256];
@@ -374,6 +383,7 @@ fn mend_level(
         narrow,
         wide,
         &at,
+        &mut asked,
         parent,
         dist,
         first,
@@ -390,6 +400,7 @@ fn mend_level(
         narrow,
         wide,
         &at,
+        &mut asked,
         dist,
         &mut keys,
         &mut mins,

@@ -6,7 +6,7 @@ use mathlib.Core.List.{List}
 use Prim.Native.Nat.{ℕ, _+_, _≤_, _<_}
 use native.Mathlib.Omega.{arith}
 use native.Mathlib.Nat.{not-suc-le-zero}
-use native.Mathlib.Decide.{decLt}
+use native.Mathlib.Decide.{ℕ-discrete, decLt}
 use lib.ListN.{length, getD, set, length-set, List·getD-eq-default}
 use lib.Seq.{getD-set-other}
 use Rattle.rules.specs.Net.{Net, Usable}
@@ -17,7 +17,7 @@ use Rattle.usable.proofs.Reading.{read-row, start-has-row}
 use Rattle.basics.specs.Tells.{Tells}
 use Rattle.basics.proofs.Answers.{tells-same, tells-no}
 use Rattle.basics.proofs.Arrays.{set-each}
-use Rattle.keep.specs.Kept.{Exact, Holds, Kept, takes, AllKept}
+use Rattle.keep.specs.Kept.{Exact, Holds, Kept, keeps, takes, AllKept, StandsBy, StandingLinks}
 
 -- ---- whether a link holds a node
 
@@ -94,6 +94,28 @@ module _ (N : Net) (dist : ℕ → ℕ) (found : List ℕ) where
 -- no link has the number for none
 pub none-holds-not : (p : Profile) {t : Table} → Proper t → {dist : ℕ → ℕ} {v : ℕ} → Holds (netIn p t) dist v noLink → ⊥
 none-holds-not p proper h = omega (arith, h .tight .usable .is-link, proper .few-links)
+
+-- nothing was found for v: where it is unreached it has no link, and else its old one
+module _ (p : Profile) {t : Table} (proper : Proper t) (dist : List ℕ) (long : length dist ≡ mostNodes) {v : ℕ} (is-node : v < mostNodes) where
+  abbrev Held : ℕ → Type 0
+  Held = Holds (netIn p t) (λ u. getD dist u (p .mark)) v
+
+  pub kept-bare : {old found : ℕ} → getD dist v 0 ≡ p .mark → Kept Held old found found
+  kept-bare far = takes (λ h. h .reached (sym (read-row dist long v (p .mark) is-node) ∙ far)) refl
+
+  pub kept-old : {old found : ℕ} → found ≡ noLink → StandsBy (netIn p t) (λ u. getD dist u (p .mark)) v old found → getD dist v 0 ≢ p .mark
+      → Kept Held old found old
+  kept-old {old} {found} none s near = at (ℕ-discrete old noLink)
+    where
+      at : Dec (old ≡ noLink) → Kept Held old found old
+      at (yes e) = takes (λ h. none-holds-not p proper (rw e at h)) (e ∙ sym none)
+      at (no n) = keeps (s .held none (λ far. near (read-row dist long v (p .mark) is-node ∙ far)) n) refl
+
+-- what the code reads is what stands there
+pub stands-read : {N : Net} {dist : ℕ → ℕ} (found old new : List ℕ) {v : ℕ} → length found ≡ mostNodes → length new ≡ mostNodes → v < mostNodes
+    → getD new v (N .none) ≡ getD old v (N .none) → StandingLinks N dist found old → StandsBy N dist v (getD new v 0) (getD found v 0)
+stands-read {N} found old new {v} long new-long is-node e s =
+    rw (read-row new new-long v (N .none) is-node, e, read-row found long v (N .none) is-node) (s .each v)
 
 pub all-kept : (p : Profile) {t : Table} → Proper t → {dist : ℕ → ℕ} {found : List ℕ} → length found ≡ mostNodes → {v : ℕ} {old new : List ℕ}
     → Keeping (netIn p t) dist found v old new → mostNodes ≤ v → length old ≡ mostNodes → AllKept (netIn p t) dist found old new

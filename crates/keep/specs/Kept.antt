@@ -33,3 +33,11 @@ pub data Kept (Held : ℕ → Type 0) (old found new : ℕ) : Type 0 where
 pub record AllKept (N : Net) (dist : ℕ → ℕ) (found old new : List ℕ) : Type 0 where
   pub long : length new ≡ mostNodes
   pub each : (v : ℕ) → Kept (Holds N dist v) (getD old v (N .none)) (getD found v (N .none)) (getD new v (N .none))
+
+-- where no link was found for a reached node, its old one holds it, if it has one
+pub record StandsBy (N : Net) (dist : ℕ → ℕ) (v old found : ℕ) : Type 0 where
+  pub held : found ≡ N .none → Reached N (unlinked N dist) v → old ≢ N .none → Holds N dist v old
+
+-- the same of every node
+pub record StandingLinks (N : Net) (dist : ℕ → ℕ) (found old : List ℕ) : Type 0 where
+  pub each : (v : ℕ) → StandsBy N dist v (getD old v (N .none)) (getD found v (N .none))

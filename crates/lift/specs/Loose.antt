@@ -11,7 +11,6 @@ use Rattle.rules.specs.Net.{Net}
 use Rattle.rules.specs.Keep.{count}
 use Rattle.rules.specs.Columns.{mostNodes}
 use Rattle.queue.specs.Queue.{empty}
-use Rattle.heads.specs.Heads.{Heads}
 use Rattle.offer.specs.Offer.{distAt, keyAt, Lined}
 use Rattle.afoot.specs.Afoot.{Untouched, Seeded}
 use Rattle.afoot.specs.Finding.{Carries}
@@ -44,6 +43,18 @@ pub record Loose (N : Net) (parent : List ℕ) (sure : ℕ → Type 0) (dist key
   pub root-idle : keyAt keys (N .root) ≡ empty
   pub standing : (v : ℕ) → sure v → Stands N parent dist keys v
 
+-- each node that stood still stands, and so does each that was asked; the root waits as before
+pub record Noted (N : Net) (parent dist keys : List ℕ) (asked : ℕ → Type 0) (keys' mins' : List ℕ) : Type 0 where
+  pub lined : Lined (N .mark) dist keys' mins'
+  pub root-still : keyAt keys' (N .root) ≡ keyAt keys (N .root)
+  pub still : (v : ℕ) → Stands N parent dist keys v → Stands N parent dist keys' v
+  pub stands : (v : ℕ) → asked v → Stands N parent dist keys' v
+
+-- k is a link, and leaves u
+pub record Leaves (starts : List ℕ) (k u : ℕ) : Type 0 where
+  pub is-link : k < length starts
+  pub from : getD starts k 0 ≡ u
+
 -- v hangs on u by its parent link
 pub record Hangs (N : Net) (parent : List ℕ) (u v : ℕ) : Type 0 where
   pub is-link : parentAt N parent v < N .links
@@ -60,7 +71,7 @@ StandBut N parent u dist keys mins = Loose N parent (λ v. Hangs N parent u v �
 
 -- every node stands but those whose parent link a row from the i-th on touches
 abbrev pub StandApart : Net → List ℕ → List ℕ → ℕ → List ℕ → List ℕ → List ℕ → Type 0
-StandApart N parent rows i dist keys mins = Loose N parent (λ v. Untouched rows i (parentAt N parent v)) dist keys mins
+StandApart N parent rows i dist keys mins = Loose N parent (λ v. Untouched N rows i (parentAt N parent v)) dist keys mins
 
 -- before: any distances up to the mark, the root's 0, and nothing waits
 pub record Liftable (N : Net) (dist keys mins : List ℕ) : Type 0 where
@@ -84,9 +95,9 @@ pub record Fates (N : Net) (dist dist' first' : List ℕ) : Type 0 where
   pub each : (v : ℕ) → Fate N dist dist' first' v
 
 -- what the answer says: no node was lifted and nothing changed, or some were
-pub data LiftedRows (N : Net) (starts dist first at' dist' first' : List ℕ) : Bool → Type 0 where
-  none : dist' ≡ dist → first' ≡ first → LiftedRows N starts dist first at' dist' first' false
-  some : Heads starts at' → Fates N dist dist' first' → LiftedRows N starts dist first at' dist' first' true
+pub data LiftedRows (N : Net) (dist first dist' first' : List ℕ) : Bool → Type 0 where
+  none : dist' ≡ dist → first' ≡ first → LiftedRows N dist first dist' first' false
+  some : Fates N dist dist' first' → LiftedRows N dist first dist' first' true
 
 -- how many nodes are reached
 unfoldable pub reachedCount : Net → List ℕ → ℕ

@@ -1,18 +1,19 @@
 -- The pass over the links, one link further. Assumes nothing.
 use mathlib.Core.Path.{_≡_, refl, sym, _∙_}
-use mathlib.Core.Bool.{Bool, true, false, _&&_, true≢false}
+use mathlib.Core.Bool.{Bool, true, false, _&&_, and-false, true≢false}
 use mathlib.Core.List.{List}
 use Prim.Native.Nat.{ℕ, _+_, _≤_, _<_}
 use native.Mathlib.Omega.{arith}
+use lib.Dec.{ltb}
 use lib.ListN.{length, getD}
 use borrow.Author.Count.{below-more}
-use borrow.Author.Tests.{lt-ltb, le-ltb}
 use Rattle.rules.specs.Net.{Net}
 use Rattle.rules.specs.Tests.{usable}
 use Rattle.rules.specs.Columns.{Table, Proper, netIn, mostNodes}
 use Rattle.rules.specs.declared.Profile.{Profile}
+use Rattle.usable.proofs.Asked.{not-usable}
 use Rattle.usable.proofs.Reading.{start-has-row, end-has-row, read-row}
-use Rattle.offends.specs.Offends.{offersLess, offends, Bars, offendsBy, Calm, Offended, LeastOffended}
+use Rattle.offends.specs.Offends.{offersLess, offends, Bars, offersBy, offendsBy, Calm, Offended, LeastOffended}
 use Rattle.offends.proofs.Below.{offers-by-bars}
 
 -- what is read of a link and of its ends decides
@@ -39,37 +40,54 @@ module _ (p : Profile) {t : Table} (proper : Proper t) (ds : List ℕ) (long : l
         h .each (getD (t .ends) k 0) (omega (arith, end-has-row proper is-link)),
       )
 
--- what the comparison and the question whether the link is usable make of it
-pub offends-less : (N : Net) (bars : List ℕ) (k : ℕ) {b : Bool} → getD bars (N .start k) 0 + N .cost k < getD bars (N .end k) 0
-    → b ≡ usable N k → b ≡ offendsBy N bars k
-unfolding offendsBy
-offends-less N bars k less e = rw (lt-ltb (getD bars (N .start k) 0 + N .cost k) (getD bars (N .end k) 0) less) e
+-- what a link offers decides, then whether it is usable; one that is down never is
+module _ (p : Profile) (t : Table) (bars : List ℕ) (k : ℕ) {b : Bool} where
+  pub offends-less : b ≡ offersBy t bars k → b ≡ true → {a : Bool} → a ≡ usable (netIn p t) k → a ≡ offendsBy (netIn p t) bars k
+  unfolding offersBy offendsBy
+  offends-less is less e = rw (← is, less) e
 
-pub offends-not : (N : Net) (bars : List ℕ) (k : ℕ) → getD bars (N .end k) 0 ≤ getD bars (N .start k) 0 + N .cost k
-    → false ≡ offendsBy N bars k
-unfolding offendsBy
-offends-not N bars k level = rw (le-ltb (getD bars (N .start k) 0 + N .cost k) (getD bars (N .end k) 0) level)
+  pub offends-not : b ≡ offersBy t bars k → b ≡ false → false ≡ offendsBy (netIn p t) bars k
+  unfolding offersBy offendsBy
+  offends-not is level = rw (← is, level)
 
--- no link yet, and one more that doesn't
-pub calm-none : (N : Net) (bars : List ℕ) → Calm N bars 0
-calm-none N bars = record { is-few = omega arith; none = λ k l. absurd (omega arith) }
+-- no link yet, and one more that is down or offers nothing less
+pub calm-none : (t : Table) (bars : List ℕ) → Calm t bars 0
+calm-none t bars = record { is-few = omega arith; none = λ k l. absurd (omega arith) }
 
-pub calm-more : {N : Net} {bars : List ℕ} {n : ℕ} {b : Bool} → Calm N bars n → n < N .links → b ≡ offendsBy N bars n → b ≡ false
-    → Calm N bars (n + 1)
-calm-more {N} {bars} {n} h l tells fails = record {
-  is-few = omega arith;
-  none = below-more (λ (k : ℕ). offendsBy N bars k ≡ false) n (h .none) (cc);
-}
+module _ {t : Table} {bars : List ℕ} {n : ℕ} (h : Calm t bars n) (is-link : n < length (t .starts)) where
+  calm-more : (ltb 0 (getD (t .costs) n 0) && offersBy t bars n) ≡ false → Calm t bars (n + 1)
+  calm-more fails = record {
+    is-few = omega arith;
+    none = below-more (λ (k : ℕ). (ltb 0 (getD (t .costs) k 0) && offersBy t bars k) ≡ false) n (h .none) fails;
+  }
+
+  pub calm-down : {b : Bool} → b ≡ ltb 0 (getD (t .costs) n 0) → b ≡ false → Calm t bars (n + 1)
+  calm-down is down = calm-more (rw (← is, down))
+
+  pub calm-level : {b : Bool} → b ≡ offersBy t bars n → b ≡ false → Calm t bars (n + 1)
+  calm-level is level = calm-more (rw (← is, level, and-false))
+
+-- such a link doesn't offend
+calm-not : (p : Profile) (t : Table) (bars : List ℕ) (k : ℕ) → (ltb 0 (getD (t .costs) k 0) && offersBy t bars k) ≡ false
+    → offendsBy (netIn p t) bars k ≡ false
+unfolding offersBy offendsBy
+calm-not p t bars k fails = by (offersBy t bars k) (ltb 0 (getD (t .costs) k 0)) refl refl
+  where
+    by : (a b : Bool) → a ≡ offersBy t bars k → b ≡ ltb 0 (getD (t .costs) k 0)
+        → (ltb (getD bars (getD (t .starts) k 0) 0 + getD (t .costs) k 0) (getD bars (getD (t .ends) k 0) 0) && usable (netIn p t) k) ≡ false
+    by a false offers up = rw (← not-usable (netIn p t) k (sym up), and-false)
+    by false true offers up = rw (← offers)
+    by true true offers up = absurd (true≢false (rw (← offers, ← up) at fails))
 
 offended-more : {N : Net} {dist : ℕ → ℕ} {n v : ℕ} → Offended N dist n v → Offended N dist (n + 1) v
 offended-more o = record { link = o .link; is-link = omega (arith, o .is-link); ends-at = o .ends-at; offends = o .offends }
 
 -- where none of the first n links offends, none of their ends is told
 pub least-calm : (p : Profile) {t : Table} → Proper t → (ds : List ℕ) → length ds ≡ mostNodes → {bars : List ℕ} {n : ℕ}
-    → Bars (p .mark) (p .ceiling) ds mostNodes bars → Calm (netIn p t) bars n → LeastOffended (netIn p t) (λ v. getD ds v (p .mark)) n mostNodes
-least-calm p proper ds long h calm = record {
+    → Bars (p .mark) (p .ceiling) ds mostNodes bars → Calm t bars n → LeastOffended (netIn p t) (λ v. getD ds v (p .mark)) n mostNodes
+least-calm p {t} proper ds long {bars} h calm = record {
   within = omega arith;
-  least = λ k l o. absurd (true≢false (sym o ∙ sym (by-bars p proper ds long (omega (arith, calm .is-few)) h) ∙ calm .none k l));
+  least = λ k l o. absurd (true≢false (sym o ∙ sym (by-bars p proper ds long (omega (arith, calm .is-few)) h) ∙ calm-not p t bars k (calm .none k l)));
   offended = λ l. absurd (omega arith);
 }
 

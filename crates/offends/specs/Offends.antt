@@ -7,7 +7,7 @@ use lib.Dec.{eqb, ltb}
 use lib.ListN.{length, getD}
 use Rattle.rules.specs.Net.{Net}
 use Rattle.rules.specs.Tests.{usable}
-use Rattle.rules.specs.Columns.{mostNodes, noCeiling}
+use Rattle.rules.specs.Columns.{Table, mostNodes, noCeiling}
 
 -- a sum over a link from a node at this distance makes a route: the node is reached, and the sum below the ceiling
 abbrev pub counts : ℕ → ℕ → ℕ → ℕ → Bool
@@ -36,15 +36,19 @@ pub record Low (bars : List ℕ) : Type 0 where
   pub long : length bars ≡ mostNodes
   pub low : (v : ℕ) → v < mostNodes → getD bars v 0 ≤ noCeiling
 
--- link k offers less by the bars of its ends, and is usable
+-- link k offers less by the bars of its ends
+unfoldable pub offersBy : Table → List ℕ → ℕ → Bool
+offersBy t bars k = ltb (getD bars (getD (t .starts) k 0) 0 + getD (t .costs) k 0) (getD bars (getD (t .ends) k 0) 0)
+
+-- and is usable
 unfoldable pub offendsBy : Net → List ℕ → ℕ → Bool
 unfolding usable
 offendsBy N bars k = ltb (getD bars (N .start k) 0 + N .cost k) (getD bars (N .end k) 0) && usable N k
 
--- none of the first n links does
-pub record Calm (N : Net) (bars : List ℕ) (n : ℕ) : Type 0 where
-  pub is-few : n ≤ N .links
-  pub none : (k : ℕ) → k < n → offendsBy N bars k ≡ false
+-- none of the first n links is up and offers less
+pub record Calm (t : Table) (bars : List ℕ) (n : ℕ) : Type 0 where
+  pub is-few : n ≤ length (t .starts)
+  pub none : (k : ℕ) → k < n → (ltb 0 (getD (t .costs) k 0) && offersBy t bars k) ≡ false
 
 module _ (N : Net) (dist : ℕ → ℕ) where
   -- link k does, and is

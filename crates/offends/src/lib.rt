@@ -3,9 +3,11 @@ ghost use mathlib.Core.Path.{_≡_};
 ghost use Prim.Native.Nat.{_≤_, _<_};
 ghost use lib.ListN.{length};
 ghost use Rattle.rules.specs.Columns.{Proper, mostNodes, noCeiling};
-ghost use Rattle.rules.specs.Lent.{lent};
-ghost use Rattle.usable.specs.Standing.{givenTable, lentNet, lentDist};
-ghost use Rattle.offends.specs.Offends.{bar, Bars, Low, offendsBy, Calm, LeastOffended};
+ghost use Rattle.rules.specs.Lent.{lent, left};
+ghost use Rattle.heads.specs.Heads.{Heads};
+ghost use Rattle.asked.specs.Asked.{Kept};
+ghost use Rattle.usable.specs.Standing.{givenTable, lentTableAt, lentNet, lentDist};
+ghost use Rattle.offends.specs.Offends.{bar, Bars, Low, offersBy, offendsBy, Calm, LeastOffended};
 use rules::Profile;
 
 const NODES: usize = 256;
@@ -38,9 +40,8 @@ fn bars(mark: u32, ceiling: u64, dist: &[u32]) -> [u64; 256]
     bars
 }
 
-// Link k offers its end less than it has, or enters it though it is unreached. Whether it is usable is asked last.
-fn link_offends(
-    profile: Profile,
+// Link k offers its end less than it has, or enters it though it is unreached, if it is usable.
+fn link_offers(
     nodes: usize,
     root: usize,
     starts: &[u16],
@@ -51,21 +52,51 @@ fn link_offends(
     k: usize,
 ) -> bool
     requires { ⌜ Proper (givenTable nodes root starts ends narrow wide) × (k < length (now starts)) × Low (now bars) ⌝ }
-    ensures { λ r. ⌜ r ≡ offendsBy (lentNet profile nodes root starts ends narrow wide) (lent bars) k ⌝ }
+    ensures { λ r. ⌜ r ≡ offersBy (lentTableAt nodes root starts ends narrow wide) (lent bars) k ⌝ }
 {
     let from = starts[k] as usize;
     let to = ends[k] as usize;
-    let cost = costs::at(narrow, wide, k);
-    let sum = bars[from] + cost as u64;
-    if sum < bars[to] {
-        return usable::usable(profile, nodes, root, starts, ends, narrow, wide, k);
+    let sum = bars[from] + costs::at(narrow, wide, k) as u64;
+    sum < bars[to]
+}
+
+// It does, and is usable, which is asked last.
+fn link_offends(
+    profile: Profile,
+    nodes: usize,
+    root: usize,
+    starts: &[u16],
+    ends: &[u16],
+    narrow: &[u16],
+    wide: &[u32],
+    bars: &[u64; 256],
+    at: &[u16; 256],
+    asked: &mut [u16; 256],
+    k: usize,
+) -> bool
+    requires { ⌜ Proper (givenTable nodes root starts ends narrow wide) × (k < length (now starts)) × Low (now bars) × Heads (now starts) (now at) × Kept (givenTable nodes root starts ends narrow wide) (now asked) ⌝ }
+    ensures { λ r. ⌜ (r ≡ offendsBy (lentNet profile nodes root starts ends narrow wide) (lent bars) k) × Kept (lentTableAt nodes root starts ends narrow wide) (left asked) ⌝ }
+{
+    if link_offers(nodes, root, starts, ends, narrow, wide, bars, k) {
+        return asked::usable(
+            profile,
+            nodes,
+            root,
+            starts,
+            ends,
+            narrow,
+            wide,
+            at,
+            asked,
+            k,
+        );
     }
     false
 }
 
-// The first link that offends, or the number of links. In a tree that fits none does, and this is all that is asked.
-fn first_offending(
-    profile: Profile,
+// The first link that is up and would offend if it were usable, or the number of links. In a tree that fits there is
+// none, unless a link has no link back, and this is all that is asked.
+fn first_offering(
     nodes: usize,
     root: usize,
     starts: &[u16],
@@ -75,14 +106,17 @@ fn first_offending(
     bars: &[u64; 256],
 ) -> usize
     requires { ⌜ Proper (givenTable nodes root starts ends narrow wide) × Low (now bars) ⌝ }
-    ensures { λ r. ⌜ Calm (lentNet profile nodes root starts ends narrow wide) (lent bars) r ⌝ }
+    ensures { λ r. ⌜ Calm (lentTableAt nodes root starts ends narrow wide) (lent bars) r ⌝ }
 {
     let mut k: usize = 0;
     while k < starts.len() {
-        if link_offends(profile, nodes, root, starts, ends, narrow, wide, bars, k) {
-            return k;
+        let next = k + 1;
+        if usable::up(narrow, wide, k) {
+            if link_offers(nodes, root, starts, ends, narrow, wide, bars, k) {
+                return k;
+            }
         }
-        k += 1;
+        k = next;
     }
     k
 }
@@ -102,12 +136,29 @@ pub fn least_offended(
     ensures { λ r. ⌜ LeastOffended (lentNet profile nodes root starts ends narrow wide) (lentDist profile dist) (length (lent starts)) r ⌝ }
 {
     let bars = bars(profile.mark, profile.ceiling, dist);
+    let mut k = first_offering(nodes, root, starts, ends, narrow, wide, &bars);
+    if k == starts.len() {
+        return NODES;
+    }
+    let at = heads::first_links(starts);
+    let mut asked = [rules::NO_LINK; 256];
     let mut least: u16 = 256;
-    let mut k = first_offending(profile, nodes, root, starts, ends, narrow, wide, &bars);
     while k < starts.len() {
         let next = k + 1;
         let end = ends[k];
-        if link_offends(profile, nodes, root, starts, ends, narrow, wide, &bars, k) {
+        if link_offends(
+            profile,
+            nodes,
+            root,
+            starts,
+            ends,
+            narrow,
+            wide,
+            &bars,
+            &at,
+            &mut asked,
+            k,
+        ) {
             if end < least {
                 least = end;
             }

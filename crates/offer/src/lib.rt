@@ -6,7 +6,9 @@ ghost use Prim.Native.Nat.{_<_};
 ghost use lib.ListN.{length, set, replicate};
 ghost use Rattle.rules.specs.Columns.{Proper, mostNodes};
 ghost use Rattle.rules.specs.Lent.{lent, left};
-ghost use Rattle.usable.specs.Standing.{givenTable, lentNet};
+ghost use Rattle.usable.specs.Standing.{givenTable, lentTableAt, lentNet};
+ghost use Rattle.heads.specs.Heads.{Heads};
+ghost use Rattle.asked.specs.Asked.{Kept};
 ghost use Rattle.queue.specs.Queue.{empty, keyOf, Rekeyed};
 ghost use Rattle.offer.specs.Offer.{Lined, Offered, Noted, Lowered, Told};
 use rules::Profile;
@@ -21,6 +23,8 @@ fn offer_less(
     ends: &[u16],
     narrow: &[u16],
     wide: &[u32],
+    at: &[u16; 256],
+    asked: &mut [u16; 256],
     link: u16,
     sum: u64,
     dist: &mut [u32; 256],
@@ -28,13 +32,24 @@ fn offer_less(
     mins: &mut [u64; 72],
     found: &mut [u16; 256],
 )
-    requires { ⌜ Proper (givenTable nodes root starts ends narrow wide) × (link < length (now starts)) × Lined (profile .mark) (now dist) (now keys) (now mins) × (length (now found) ≡ mostNodes) ⌝ }
-    ensures { λ _. ⌜ Lined (profile .mark) (left dist) (left keys) (left mins) × (length (left found) ≡ mostNodes) × Offered (lentNet profile nodes root starts ends narrow wide) link sum (lent dist) (lent keys) (left dist) (left keys) × Noted (lentNet profile nodes root starts ends narrow wide) link sum (lent dist) (lent found) (left found) ⌝ }
+    requires { ⌜ Proper (givenTable nodes root starts ends narrow wide) × (link < length (now starts)) × Lined (profile .mark) (now dist) (now keys) (now mins) × (length (now found) ≡ mostNodes) × Heads (now starts) (now at) × Kept (givenTable nodes root starts ends narrow wide) (now asked) ⌝ }
+    ensures { λ _. ⌜ Lined (profile .mark) (left dist) (left keys) (left mins) × (length (left found) ≡ mostNodes) × Offered (lentNet profile nodes root starts ends narrow wide) link sum (lent dist) (lent keys) (left dist) (left keys) × Noted (lentNet profile nodes root starts ends narrow wide) link sum (lent dist) (lent found) (left found) × Kept (lentTableAt nodes root starts ends narrow wide) (left asked) ⌝ }
 {
     let k = link as usize;
     let node = ends[k] as usize;
     if sum < dist[node] as u64 {
-        let up = usable::usable(profile, nodes, root, starts, ends, narrow, wide, k);
+        let up = asked::usable(
+            profile,
+            nodes,
+            root,
+            starts,
+            ends,
+            narrow,
+            wide,
+            at,
+            asked,
+            k,
+        );
         if up {
             dist[node] = sum as u32;
             found[node] = link;
@@ -44,7 +59,7 @@ fn offer_less(
 }
 
 // The same, and a sum that equals the distance of a reached node may lower the link found.
-pub fn offer(
+fn heed(
     profile: Profile,
     nodes: usize,
     root: usize,
@@ -52,6 +67,8 @@ pub fn offer(
     ends: &[u16],
     narrow: &[u16],
     wide: &[u32],
+    at: &[u16; 256],
+    asked: &mut [u16; 256],
     link: u16,
     sum: u64,
     dist: &mut [u32; 256],
@@ -59,8 +76,8 @@ pub fn offer(
     mins: &mut [u64; 72],
     found: &mut [u16; 256],
 )
-    requires { ⌜ Proper (givenTable nodes root starts ends narrow wide) × (link < length (now starts)) × Lined (profile .mark) (now dist) (now keys) (now mins) × (length (now found) ≡ mostNodes) ⌝ }
-    ensures { λ _. ⌜ Lined (profile .mark) (left dist) (left keys) (left mins) × (length (left found) ≡ mostNodes) × Offered (lentNet profile nodes root starts ends narrow wide) link sum (lent dist) (lent keys) (left dist) (left keys) × Noted (lentNet profile nodes root starts ends narrow wide) link sum (lent dist) (lent found) (left found) × Lowered (lentNet profile nodes root starts ends narrow wide) link sum (lent dist) (left found) ⌝ }
+    requires { ⌜ Proper (givenTable nodes root starts ends narrow wide) × (link < length (now starts)) × Lined (profile .mark) (now dist) (now keys) (now mins) × (length (now found) ≡ mostNodes) × Heads (now starts) (now at) × Kept (givenTable nodes root starts ends narrow wide) (now asked) ⌝ }
+    ensures { λ _. ⌜ Lined (profile .mark) (left dist) (left keys) (left mins) × (length (left found) ≡ mostNodes) × Offered (lentNet profile nodes root starts ends narrow wide) link sum (lent dist) (lent keys) (left dist) (left keys) × Noted (lentNet profile nodes root starts ends narrow wide) link sum (lent dist) (lent found) (left found) × Lowered (lentNet profile nodes root starts ends narrow wide) link sum (lent dist) (left found) × Kept (lentTableAt nodes root starts ends narrow wide) (left asked) ⌝ }
 {
     let k = link as usize;
     let node = ends[k] as usize;
@@ -73,6 +90,8 @@ pub fn offer(
             ends,
             narrow,
             wide,
+            at,
+            asked,
             link,
             sum,
             dist,
@@ -84,11 +103,67 @@ pub fn offer(
     }
     if link < found[node] {
         if sum < profile.mark as u64 {
-            if usable::usable(profile, nodes, root, starts, ends, narrow, wide, k) {
+            if asked::usable(
+                profile,
+                nodes,
+                root,
+                starts,
+                ends,
+                narrow,
+                wide,
+                at,
+                asked,
+                k,
+            ) {
                 found[node] = link;
             }
         }
     }
+}
+
+// The same of any sum, for the loop: most are more than the end has, and that is told at once, before anything is handed on.
+pub fn offer(
+    profile: Profile,
+    nodes: usize,
+    root: usize,
+    starts: &[u16],
+    ends: &[u16],
+    narrow: &[u16],
+    wide: &[u32],
+    at: &[u16; 256],
+    asked: &mut [u16; 256],
+    link: u16,
+    sum: u64,
+    dist: &mut [u32; 256],
+    keys: &mut [u64; 256],
+    mins: &mut [u64; 72],
+    found: &mut [u16; 256],
+)
+    requires { ⌜ Proper (givenTable nodes root starts ends narrow wide) × (link < length (now starts)) × Lined (profile .mark) (now dist) (now keys) (now mins) × (length (now found) ≡ mostNodes) × Heads (now starts) (now at) × Kept (givenTable nodes root starts ends narrow wide) (now asked) ⌝ }
+    ensures { λ _. ⌜ Lined (profile .mark) (left dist) (left keys) (left mins) × (length (left found) ≡ mostNodes) × Offered (lentNet profile nodes root starts ends narrow wide) link sum (lent dist) (lent keys) (left dist) (left keys) × Noted (lentNet profile nodes root starts ends narrow wide) link sum (lent dist) (lent found) (left found) × Lowered (lentNet profile nodes root starts ends narrow wide) link sum (lent dist) (left found) × Kept (lentTableAt nodes root starts ends narrow wide) (left asked) ⌝ }
+{
+    let k = link as usize;
+    let node = ends[k] as usize;
+    if (dist[node] as u64) < sum {
+        return;
+    }
+    heed(
+        profile,
+        nodes,
+        root,
+        starts,
+        ends,
+        narrow,
+        wide,
+        at,
+        asked,
+        link,
+        sum,
+        dist,
+        keys,
+        mins,
+        found,
+    );
 }
 
 // A link is offered, unless its start is unreached: nothing is ever added to the mark. The sum is made in 64 bits, where it
@@ -101,21 +176,23 @@ pub fn offer_link(
     ends: &[u16],
     narrow: &[u16],
     wide: &[u32],
+    at: &[u16; 256],
+    asked: &mut [u16; 256],
     link: u16,
     dist: &mut [u32; 256],
     keys: &mut [u64; 256],
     mins: &mut [u64; 72],
     found: &mut [u16; 256],
 )
-    requires { ⌜ Proper (givenTable nodes root starts ends narrow wide) × (link < length (now starts)) × Lined (profile .mark) (now dist) (now keys) (now mins) × (length (now found) ≡ mostNodes) ⌝ }
-    ensures { λ _. ⌜ Lined (profile .mark) (left dist) (left keys) (left mins) × (length (left found) ≡ mostNodes) × Told (lentNet profile nodes root starts ends narrow wide) link (lent dist) (lent keys) (lent found) (left dist) (left keys) (left found) ⌝ }
+    requires { ⌜ Proper (givenTable nodes root starts ends narrow wide) × (link < length (now starts)) × Lined (profile .mark) (now dist) (now keys) (now mins) × (length (now found) ≡ mostNodes) × Heads (now starts) (now at) × Kept (givenTable nodes root starts ends narrow wide) (now asked) ⌝ }
+    ensures { λ _. ⌜ Lined (profile .mark) (left dist) (left keys) (left mins) × (length (left found) ≡ mostNodes) × Told (lentNet profile nodes root starts ends narrow wide) link (lent dist) (lent keys) (lent found) (left dist) (left keys) (left found) × Kept (lentTableAt nodes root starts ends narrow wide) (left asked) ⌝ }
 {
     let k = link as usize;
     let start = starts[k] as usize;
     let near = dist[start];
     if near < profile.mark {
         let sum = near as u64 + costs::at(narrow, wide, k) as u64;
-        offer(
+        heed(
             profile,
             nodes,
             root,
@@ -123,6 +200,8 @@ pub fn offer_link(
             ends,
             narrow,
             wide,
+            at,
+            asked,
             link,
             sum,
             dist,

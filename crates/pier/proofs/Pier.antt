@@ -13,7 +13,7 @@ use Rattle.rules.specs.Net.{Net, Usable}
 use Rattle.rules.specs.Fit.{Rows, Tight, Hung, Row, Fits, Path, at-root, by-parent}
 use Rattle.rules.specs.Keep.{Smallest, Choice, keeps, takes, Fresh, Next}
 use Rattle.rules.specs.Tests.{all, usable, tight, hungRow, breaks}
-use Rattle.rules.specs.Columns.{Table, Proper, Arrays, Whole, netOf, rowsOf, mostNodes, after, applied}
+use Rattle.rules.specs.Columns.{Table, Proper, Arrays, Whole, netOf, rowsOf, mostNodes, after, applied, someLeads}
 use Rattle.rules.specs.Refusals.{Values, both, Verdict, accepted, refused, judgeLinks, judgeTree, judgeBatch, judgeUpdate, judgeAsked}
 use Rattle.rules.specs.Jobs.{changedBelow, built, updated, not-updated, pathed}
 use Rattle.pier.specs.Pier.{Line, fresh, update, refuse, path, LineHolds, LinesHold, pierLines}
@@ -66,24 +66,24 @@ module _ (N : Net) (r : Rows) where
   isFresh = fits && all (λ v. not (hungRow N r v) || smallest v) (N .nodes)
 
   -- the links ks, the last first, lead up from v to the root, and each is the parent of its end
-  unfoldable leads : ℕ → List ℕ → Bool
+  unfoldable goes : ℕ → List ℕ → Bool
   unfolding usable
-  leads v [] = eqb v (N .root)
-  leads v (k ∷ ks) = not (eqb v (N .root)) && eqb k (r .parent v) && usable N k && eqb (N .end k) v && leads (N .start k) ks
+  goes v [] = eqb v (N .root)
+  goes v (k ∷ ks) = not (eqb v (N .root)) && eqb k (r .parent v) && usable N k && eqb (N .end k) v && goes (N .start k) ks
 
 unfoldable backward : List ℕ → List ℕ
 backward [] = []
 backward (k ∷ ks) = backward ks ++ (k ∷ [])
 
 unfoldable pub passes : Line → Bool
-unfolding isAccepted isRefused same whole isNext isFresh leads backward judgeLinks judgeBatch judgeAsked applied changedBelow
+unfolding isAccepted isRefused same whole isNext isFresh goes backward judgeLinks judgeBatch judgeAsked applied changedBelow someLeads
 passes (fresh t tree) = isAccepted (judgeLinks t) && whole tree && isFresh (netOf t) (rowsOf tree)
 passes (update t old batch new changed) =
     isAccepted (judgeBatch t old batch) && whole new && isNext (netOf (after t batch)) (rowsOf new) (rowsOf old .parent)
     && same changed (changedBelow (rowsOf old) (rowsOf new) (t .nodes))
 passes (refuse t old batch number values) = isRefused number values (judgeBatch t old batch)
 passes (path t tree node links) =
-    isAccepted (judgeAsked t tree node) && leads (netOf t) (rowsOf tree) node (backward links) && same (backward (backward links)) links
+    isAccepted (judgeAsked t tree node) && goes (netOf t) (rowsOf tree) node (backward links) && same (backward (backward links)) links
 
 -- ---- what passes holds
 
@@ -139,12 +139,12 @@ module _ (N : Net) (r : Rows) where
   one-more : {k v : ℕ} {ks : List ℕ} → k ≡ r .parent v → v ≢ N .root → Usable N k → N .end k ≡ v → Path N r (N .start k) ks → Path N r v (ks ++ (k ∷ []))
   one-more {ks = ks} e n u s p = rw e (by-parent {ks = ks} n (rw (← e) u) (rw (← e) s) (rw (← e) p))
 
-  leads-of : (v : ℕ) (ks : List ℕ) → T (leads N r v ks) → Path N r v (backward ks)
-  unfolding leads backward
-  leads-of v [] q = rw (eqb→eq v (N .root) q) at-root
-  leads-of v (k ∷ ks) q =
+  goes-of : (v : ℕ) (ks : List ℕ) → T (goes N r v ks) → Path N r v (backward ks)
+  unfolding goes backward
+  goes-of v [] q = rw (eqb→eq v (N .root) q) at-root
+  goes-of v (k ∷ ks) q =
       one-more (eqb→eq k (r .parent v) (search (and-l, and-r))) (neqb→ne v (N .root) (search (and-l, and-r))) (usable-of N k (search (and-l, and-r)))
-      (eqb→eq (N .end k) v (search (and-l, and-r))) (leads-of (N .start k) ks (search (and-l, and-r)))
+      (eqb→eq (N .end k) v (search (and-l, and-r))) (goes-of (N .start k) ks (search (and-l, and-r)))
 
   -- of each node that hangs
   of-hung : (p : ℕ → Bool) → T (all (λ v. not (hungRow N r v) || p v) (N .nodes)) → (v : ℕ) → Hung N r v → T (p v)
@@ -207,7 +207,7 @@ line-holds (update t old batch new changed) q = λ list l.
     (same-of changed (changedBelow (rowsOf old) (rowsOf new) (t .nodes)) (search (and-l, and-r)))
 line-holds (refuse t old batch number values) q = λ list. not-updated (still-refused t old batch list (refused-of number values (judgeBatch t old batch) q))
 line-holds (path t tree node links) q = λ list l.
-    let way = leads-of (netOf t) (rowsOf tree) node (backward links) (search (and-l, and-r)) in
+    let way = goes-of (netOf t) (rowsOf tree) node (backward links) (search (and-l, and-r)) in
     let turned = same-of (backward (backward links)) links (search (and-l, and-r)) in
     pathed (accepted-of (judgeAsked t tree node) (search (and-l, and-r))) (rw turned at way) l
 

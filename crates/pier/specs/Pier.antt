@@ -118,8 +118,8 @@ pierLines =
     update pier tree1 (0 to 0 ∷ []) tree8 (1 ∷ 2 ∷ 3 ∷ []) ∷
     -- P9
     update pier tree1 (6 to 0 ∷ []) tree9 (3 ∷ []) ∷
-    -- P10
-    update pier tree1 (7 to 0 ∷ []) tree1 [] ∷
+    -- P10: link 6 has lost its link back
+    update pier tree1 (7 to 0 ∷ []) tree9 (3 ∷ []) ∷
     -- P11
     refuse pier tree1 (3 to 5 ∷ 0 to 2 ∷ 3 to 6 ∷ []) 9 (both 2 0) ∷
     -- P12

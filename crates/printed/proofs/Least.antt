@@ -34,41 +34,41 @@ use Rattle.printed.proofs.Costs.{tells-led, asks-least}
 
 -- ---- the lines of other records
 
-refusal-line : (number : ℕ) (list : List ℕ) (place earlier : ℕ) → OtherLine (lineOf (Refused number) list place earlier)
-refusal-line number list place earlier = at (eqb number 9)
-  where
-    at : (twice : Bool) → OtherLine (cond twice (againLine place earlier) (refusalLine number place))
-    at true = again place earlier
-    at false = refusal number place
-
 module _ (s : State) (list : List ℕ) (place earlier : ℕ) where
+  refusal-line : (number : ℕ) → OtherLine (lineOf (Refused number) list place earlier)
+  refusal-line number = by (eqb number 9) refl
+    where
+      by : (b : Bool) → b ≡ eqb number 9 → OtherLine (cond (eqb number 9) (againLine place earlier) (refusalLine number place))
+      by true e = rw (← e) (again place earlier)
+      by false e = rw (← e) (refusal number place)
+
   network-line : (v : Verdict) (nodes root : ℕ) → OtherLine (lineOf (networked v s nodes root .out) list place earlier)
   network-line accepted nodes root = silent
-  network-line (refused number values) nodes root = refusal-line number list place earlier
+  network-line (refused number values) nodes root = refusal-line number
 
   link-line : (v : Verdict) → OtherLine (lineOf (linked v s .out) list place earlier)
   link-line accepted = silent
-  link-line (refused number values) = refusal-line number list place earlier
+  link-line (refused number values) = refusal-line number
 
   change-line : (v : Verdict) → OtherLine (lineOf (changing v s .out) list place earlier)
   change-line accepted = silent
-  change-line (refused number values) = refusal-line number list place earlier
+  change-line (refused number values) = refusal-line number
 
 -- ---- one turn
 
 module _ {stream : List ℕ} {from : State} {lent : Lists} {turns place : ℕ} {told : List ℕ} {s : State} {k : Lists} (bytes : AreBytes stream) (unread : from .phase ≡ Unread)
-    (fits : CostsFit lent) (tells : Tells stream 0 from lent turns told s k place true) where
-  item-line : (earlier : ℕ) {item : Item} {d : Done} {l : Lists} → Steps s k item d l → item ≡ readAt stream place .item
+    (fits : CostsFit lent) (tells : Tells stream 0 from lent turns told s k place true) (earlier : ℕ) where
+  item-line : {item : Item} {d : Done} {l : Lists} → Steps s k item d l → item ≡ readAt stream place .item
       → LeastLine stream from lent (lineOf (d .out) (l .list) place earlier) ⊎ OtherLine (lineOf (d .out) (l .list) place earlier)
-  item-line earlier (out-of-order x) e = inr (refusal 23 place)
-  item-line earlier unknown e = inr (refusal 21 place)
-  item-line earlier cut e = inr (refusal 22 place)
-  item-line earlier (ended x) e = inr silent
-  item-line earlier (network {nodes} {root} x) e = inr (network-line s (k .list) place earlier (judgeLinks (table nodes root [] [] [])) nodes root)
-  item-line earlier (link {start} {end} {cost} x) e = inr (link-line s (k .list) place earlier (linkVerdict s k start end cost))
-  item-line earlier (change {link = named} {cost} {r} ready) e = inr (change-line r (k .list) place earlier (changeVerdict r k named cost))
-  item-line earlier (apply {list = list} ready a) e = inr (rw (ap (λ (x : Done). x .out) (a .kept)) (changed (a .count) list))
-  item-line earlier (ask {node} {r} ready) e = at (decLt node (r .nodes))
+  item-line (out-of-order x) e = inr (refusal 23 place)
+  item-line unknown e = inr (refusal 21 place)
+  item-line cut e = inr (refusal 22 place)
+  item-line (ended x) e = inr silent
+  item-line (network {nodes} {root} x) e = inr (network-line s (k .list) place earlier (judgeLinks (table nodes root [] [] [])) nodes root)
+  item-line (link {start} {end} {cost} x) e = inr (link-line s (k .list) place earlier (linkVerdict s k start end cost))
+  item-line (change {link = named} {cost} {r} ready) e = inr (change-line r (k .list) place earlier (changeVerdict r k named cost))
+  item-line (apply {list = list} ready a) e = inr (rw (ap (λ (x : Done). x .out) (a .kept)) (changed (a .count) list))
+  item-line (ask {node} {r} ready) e = at (decLt node (r .nodes))
     where
       at : Dec (node < r .nodes) → LeastLine stream from lent (lineOf (asked r node) (k .list) place earlier) ⊎ OtherLine (lineOf (asked r node) (k .list) place earlier)
       at (yes inside) =
@@ -98,10 +98,9 @@ tells-least bytes unread fits (then before (too-long l)) = other (tells-least by
 tells-least {stream} {from} {lent = lent} bytes unread fits (then {next = place} {told = told} before (reads {done} {after} few steps)) =
     at (tells-least bytes unread fits before) (item-line bytes unread fits before (earlierOf stream place (readAt stream place .item)) steps refl)
   where
-    at : LeastText stream from lent told → LeastLine stream from lent (lineOf (done .out) (after .list) place (earlierOf stream place (readAt stream place .item))) ⊎ OtherLine (lineOf (done .out) (after .list) place (earlierOf stream place (readAt stream place .item)))
-        → LeastText stream from lent (told ++ lineOf (done .out) (after .list) place (earlierOf stream place (readAt stream place .item)))
-    at earlier (inl least) = row earlier least
-    at earlier (inr line) = other earlier line
+    at : {line : List ℕ} → LeastText stream from lent told → LeastLine stream from lent line ⊎ OtherLine line → LeastText stream from lent (told ++ line)
+    at text (inl least) = row text least
+    at text (inr line) = other text line
 
 -- whatever bytes are read, each N line that is printed shows the least sum over the links then usable
 pub every-n-line : {stream text : List ℕ} → AreBytes stream → (p : Prints stream text) → LeastText stream (p .state) (p .lent) text

@@ -26,11 +26,11 @@ not-refused e = let z : _≡_ {A = ℕ} 0 1 = cc in omega arith
 
 pub then-first : (a b : Verdict) → a then b ≡ accepted → a ≡ accepted
 then-first accepted b e = refl
-then-first (refused number values) b e = e
+then-first (refused number value) b e = e
 
 pub then-second : (a b : Verdict) → a then b ≡ accepted → b ≡ accepted
 then-second accepted b e = e
-then-second (refused number values) b e = absurd (not-refused e)
+then-second (refused number value) b e = absurd (not-refused e)
 
 pub when-not : (test : Bool) (number : ℕ) → when test number ≡ accepted → test ≡ false
 when-not true number e = absurd (not-refused e)

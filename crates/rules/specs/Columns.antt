@@ -2,12 +2,14 @@
 -- files before this one know none of them. Assumes nothing.
 use mathlib.Core.Path.{_≡_}
 use mathlib.Core.Logic.{_≢_}
-use mathlib.Core.Bool.{true}
+use mathlib.Core.Bool.{Bool, _&&_}
 use mathlib.Core.List.{List, [], _∷_}
 use Prim.Native.Nat.{ℕ, _-_, _^_, _≤_, _<_}
+use lib.Dec.{eqb, ltb}
 use lib.ListN.{length, getD, set, replicate}
 use Rattle.rules.specs.Net.{Net}
 use Rattle.rules.specs.Fit.{Rows}
+use Rattle.rules.specs.Tests.{some}
 use Rattle.rules.specs.declared.Change.{Change}
 use Rattle.rules.specs.declared.Profile.{Profile}
 
@@ -49,7 +51,17 @@ table nodes root starts ends costs = record { nodes = nodes; root = root; starts
 abbrev pub narrow : Profile
 narrow = record { most = mostCost; ceiling = noCeiling; mark = unreached }
 
--- a link's number is its place, from 0; every link is open, so it is usable when its cost isn't 0
+-- link j leads from one node to another, and its cost isn't 0
+abbrev pub leads : Table → ℕ → ℕ → ℕ → Bool
+leads t from to j = eqb (getD (t .starts) j 0) from && eqb (getD (t .ends) j 0) to && ltb 0 (getD (t .costs) j 0)
+
+-- some link does
+unfoldable pub someLeads : Table → ℕ → ℕ → Bool
+unfolding some
+someLeads t from to = some (leads t from to) (length (t .starts))
+
+-- a link's number is its place, from 0; it is open when some link leads back from its end to its start, so it is usable
+-- when its cost isn't 0 and that of some link back isn't
 abbrev pub netIn : Profile → Table → Net
 netIn p t = record {
   nodes = t .nodes;
@@ -58,7 +70,7 @@ netIn p t = record {
   start = λ k. getD (t .starts) k 0;
   end = λ k. getD (t .ends) k 0;
   cost = λ k. getD (t .costs) k 0;
-  is-open = λ k. true;
+  is-open = λ k. someLeads t (getD (t .ends) k 0) (getD (t .starts) k 0);
   most = p .most;
   ceiling = p .ceiling;
   mark = p .mark;

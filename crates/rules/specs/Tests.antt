@@ -11,6 +11,11 @@ unfoldable pub all : (ℕ → Bool) → ℕ → Bool
 all p zero = true
 all p (suc n) = p n && all p n
 
+-- some number below n passes
+unfoldable pub some : (ℕ → Bool) → ℕ → Bool
+some p zero = false
+some p (suc n) = p n || some p n
+
 -- the smallest number below n that passes, and n where none does
 abbrev pub orNext : ℕ → Bool → ℕ → ℕ
 orNext n passes found = cond (ltb found n) found (cond passes n (suc n))

@@ -89,7 +89,7 @@ module _ (t : Table) (old : Arrays) (batch : List Change) (list : List ℕ) (e :
         old = update-old w c;
         named = record { named = λ m l. rw (link-at m (in-batch m l)) (rw (← update-proper .costs-long) at (update-named .named m (in-batch m l))) };
         costs = t .costs;
-        same = λ k apart. record { cost = sym (applied-other batch (t .costs) k (λ m l e. apart m (omega arith) (rw length-take-changed l) (link-at m l ∙ e))); is-open = refl };
+        same = λ k apart. sym (applied-other batch (t .costs) k (λ m l e. apart m (rw length-take-changed l) (link-at m l ∙ e)));
         fits = tree-accepted t old w (update-links t old batch list e) .1;
       }
     where

@@ -3,7 +3,7 @@
 use crate::shorten::smallest;
 use crate::streams;
 use front::program::Program;
-use reckon::stream::{lines, read, Record, MOST_BYTES};
+use reckon::stream::{lines, read, Record, Run, MOST_BYTES};
 use std::time::Duration;
 
 struct Astray {
@@ -17,7 +17,7 @@ impl Program for Astray {
     }
 }
 
-const TURNS: [Astray; 26] = [
+const TURNS: [Astray; 27] = [
     Astray {
         name: "gives 22 for an unknown kind at the end",
         printed: |s| renumbered(s, 21, 22, |p| p + 1 == s.len()),
@@ -50,6 +50,7 @@ const TURNS: [Astray; 26] = [
     Astray { name: "keeps the rows after APPLY", printed: keeps_rows },
     Astray { name: "lists the nodes of the batch before", printed: lists_old_nodes },
     Astray { name: "rebuilds from nothing at APPLY", printed: rebuilds },
+    Astray { name: "overlooks what goes down off the tree", printed: overlooks_off_the_tree },
     Astray { name: "reads the low byte first", printed: low_byte_first },
     Astray { name: "refuses to tell an unreached node", printed: refuses_unreached },
     Astray { name: "prints 65535 for no link", printed: |s| lines(s).replace('-', "65535") },
@@ -256,6 +257,31 @@ fn rebuilds(stream: &[u8]) -> String {
         }
     }
     shown.iter().map(|line| format!("{line}\n")).collect()
+}
+
+// A row that takes down a link on which no node hangs leaves it at its cost.
+fn overlooks_off_the_tree(stream: &[u8]) -> String {
+    let (mut other, mut run) = (stream.to_vec(), Run::default());
+    let (mut costs, mut rows) = (Vec::new(), Vec::new());
+    for (place, record) in all_read(stream) {
+        match record {
+            Record::Link { cost, .. } => costs.push(cost),
+            Record::Change { link, mut cost } => {
+                let hangs = |row: &String| row.split(' ').nth(3) == Some(&link.to_string());
+                if let (0, Some(standing), false) = (cost, costs.get(link as usize), run.rows().iter().any(hangs)) {
+                    cost = *standing;
+                    other[place + 3..place + 5].copy_from_slice(&cost.to_be_bytes());
+                }
+                rows.push((link as usize, cost));
+            }
+            Record::Apply => rows.drain(..).for_each(|(link, cost)| costs[link] = cost),
+            _ => {}
+        }
+        if run.take(record).is_err() {
+            break;
+        }
+    }
+    lines(&other)
 }
 
 fn low_byte_first(stream: &[u8]) -> String {

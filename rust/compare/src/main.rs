@@ -14,6 +14,7 @@
 #![forbid(unsafe_code)]
 
 mod astray;
+mod back;
 mod case;
 mod guard;
 mod listen;
@@ -70,24 +71,42 @@ impl Comparison {
     }
 }
 
-// Every table of three nodes with so many links over these costs, from every root. All orders of links count.
-fn tiny(links: usize, prices: &[u16], mut each: impl FnMut(Case)) {
-    let pairs: [(u16, u16); 6] = [(0, 1), (0, 2), (1, 0), (1, 2), (2, 0), (2, 1)];
-    let tables = 6usize.pow(links as u32);
-    let columns = prices.len().pow(links as u32);
-    for code in 0..tables {
-        let table: Vec<_> = (0..links as u32).map(|k| pairs[code / 6usize.pow(k) % 6]).collect();
-        if table.windows(2).any(|two| two[1].0 < two[0].0) {
-            continue;
-        }
-        for column in 0..columns {
+type Ends = (u16, u16);
+
+// Every table of three nodes with so many links. All orders of links count.
+fn tables(links: u32) -> Vec<Vec<Ends>> {
+    let pairs: [Ends; 6] = [(0, 1), (0, 2), (1, 0), (1, 2), (2, 0), (2, 1)];
+    let table = |code: usize| (0..links).map(|k| pairs[code / 6usize.pow(k) % 6]).collect::<Vec<Ends>>();
+    let in_order = |table: &Vec<Ends>| table.windows(2).all(|two| two[0].0 <= two[1].0);
+    (0..6usize.pow(links)).map(table).filter(in_order).collect()
+}
+
+// Every table of three nodes with so many pairs of links both ways.
+fn tables_both_ways(pairs: u32) -> Vec<Vec<Ends>> {
+    let joined: [Ends; 3] = [(0, 1), (0, 2), (1, 2)];
+    let chosen = |code: usize| (0..pairs).map(|k| code / 3usize.pow(k) % 3).collect::<Vec<usize>>();
+    let in_order = |chosen: &Vec<usize>| chosen.windows(2).all(|two| two[0] <= two[1]);
+    let table = |chosen: Vec<usize>| {
+        let mut table: Vec<Ends> = chosen.into_iter().map(|k| joined[k]).flat_map(|(a, b)| [(a, b), (b, a)]).collect();
+        table.sort();
+        table
+    };
+    (0..3usize.pow(pairs)).map(chosen).filter(in_order).map(table).collect()
+}
+
+// Each of the tables at every column of these costs, from every root.
+fn tiny(tables: &[Vec<Ends>], prices: &[u16], mut each: impl FnMut(Case)) {
+    for table in tables {
+        for column in 0..prices.len().pow(table.len() as u32) {
             for root in 0..3 {
                 each(Case {
                     nodes: 3,
                     root,
-                    starts: table.iter().map(|pair| pair.0).collect(),
-                    ends: table.iter().map(|pair| pair.1).collect(),
-                    costs: (0..links as u32).map(|k| prices[column / prices.len().pow(k) % prices.len()]).collect(),
+                    starts: table.iter().map(|ends| ends.0).collect(),
+                    ends: table.iter().map(|ends| ends.1).collect(),
+                    costs: (0..table.len())
+                        .map(|k| prices[column / prices.len().pow(k as u32) % prices.len()])
+                        .collect(),
                     ..Case::default()
                 });
             }
@@ -99,12 +118,12 @@ fn row(link: usize, cost: u16) -> Batch {
     Batch { links: vec![link as u16], costs: vec![cost], list: 3 }
 }
 
-fn tiny_singles(c: &mut Comparison, links: usize, prices: &[u16]) {
-    tiny(links, prices, |mut case| {
+fn tiny_singles(c: &mut Comparison, tables: &[Vec<Ends>], prices: &[u16]) {
+    tiny(tables, prices, |mut case| {
         case.asks = (0..3).map(|node| Ask { node, list: 2 }).collect();
         c.one(&Archive, "every tiny network", 0, &case);
         case.asks.clear();
-        for link in 0..links {
+        for link in 0..case.starts.len() {
             for cost in prices {
                 case.batches = vec![row(link, *cost)];
                 c.one(&Archive, "every single change of every tiny network", 0, &case);
@@ -113,14 +132,20 @@ fn tiny_singles(c: &mut Comparison, links: usize, prices: &[u16]) {
     });
 }
 
-fn tiny_pairs(c: &mut Comparison) {
+// Every two rows, as two batches in turn and, where they name two links, as one.
+fn tiny_twos(c: &mut Comparison, tables: &[Vec<Ends>]) {
     let prices = [0, 1, 2];
-    tiny(3, &prices, |case| {
-        for code in 0..81 {
-            let first = row(code % 3, prices[code / 3 % 3]);
-            let second = row(code / 9 % 3, prices[code / 27]);
-            let case = Case { batches: vec![first, second], ..case.clone() };
-            c.one(&Archive, "every two changes in turn", code as u64, &case);
+    tiny(tables, &prices, |case| {
+        let rows = 3 * case.starts.len();
+        for code in 0..rows * rows {
+            let (one, other) = ((code % rows / 3, prices[code % 3]), (code / rows / 3, prices[code / rows % 3]));
+            let in_turn = vec![row(one.0, one.1), row(other.0, other.1)];
+            c.one(&Archive, "every two changes in turn", code as u64, &Case { batches: in_turn, ..case.clone() });
+            if one.0 < other.0 {
+                let links = vec![one.0 as u16, other.0 as u16];
+                let at_once = vec![Batch { links, costs: vec![one.1, other.1], list: 3 }];
+                c.one(&Archive, "every two changes at once", code as u64, &Case { batches: at_once, ..case.clone() });
+            }
         }
     });
 }
@@ -144,18 +169,20 @@ fn every_damage(c: &mut Comparison, from: u64) {
 
 // The sizes' ends.
 fn sizes(c: &mut Comparison) {
+    // Links both ways: from each node to the one before it, then to the one behind it.
     let chain = |nodes: usize| Case {
         nodes,
-        starts: (0..255).collect(),
-        ends: (1..256).collect(),
-        costs: vec![65_535; 255],
+        starts: (1..511).map(|k| k / 2).collect(),
+        ends: (0..510).map(|k| if k % 2 == 0 { k / 2 + 1 } else { k / 2 }).collect(),
+        costs: vec![65_535; 510],
         asks: vec![Ask { node: 255, list: 255 }, Ask { node: 255, list: 254 }, Ask { node: 256, list: 256 }],
         ..Case::default()
     };
+    // The last link, if there are two or more, leads back.
     let stack = |links: usize, rows: usize| Case {
         nodes: 2,
-        starts: vec![0; links],
-        ends: vec![1; links],
+        starts: (0..links).map(|k| u16::from(k > 0 && k + 1 == links)).collect(),
+        ends: (0..links).map(|k| u16::from(k == 0 || k + 1 < links)).collect(),
         costs: (0..links).map(|k| 65_535 - k as u16 % 7).collect(),
         batches: vec![
             Batch { links: (0..rows as u16).collect(), costs: vec![65_534; rows], list: 2 },
@@ -180,10 +207,12 @@ fn fixed(c: &mut Comparison) {
         pier::cases().iter().zip(0..).for_each(|(case, at)| c.one(&Archive, "the pier network", at, case))
     });
     c.family("3 nodes, up to 3 links: every single change", |c| {
-        (0..=3).for_each(|links| tiny_singles(c, links, &[0, 1, 2, 65_534, 65_535]))
+        (0..=3).for_each(|links| tiny_singles(c, &tables(links), &[0, 1, 2, 65_534, 65_535]))
     });
-    c.family("3 nodes, 4 links: every single change", |c| tiny_singles(c, 4, &[0, 1, 2]));
-    c.family("3 nodes, 3 links: every two changes in turn", tiny_pairs);
+    c.family("3 nodes, 4 links: every single change", |c| tiny_singles(c, &tables(4), &[0, 1, 2]));
+    c.family("3 nodes, 6 both ways: every single change", |c| tiny_singles(c, &tables_both_ways(3), &[0, 1, 2]));
+    c.family("3 nodes, 3 links: every two changes", |c| tiny_twos(c, &tables(3)));
+    c.family("3 nodes, 4 both ways: every two changes", |c| tiny_twos(c, &tables_both_ways(2)));
     c.family("the sizes' ends", sizes);
 }
 
@@ -249,6 +278,7 @@ fn jobs(from: u64) {
     all_came_up(&c.tally);
     guard::tried();
     swapped::tried();
+    back::came_up(from);
     wrong::all_found();
     println!("{} cases, {} calls compared in {:.1} s: 0 differ", c.cases, c.calls(), c.began.elapsed().as_secs_f32());
 }

@@ -1,6 +1,7 @@
 // Making cases from seeds.
 use crate::case::{Ask, Batch, Case, Edit, Entry};
-use reckon::rules::{self, Tree, NODES, NONE, UNREACHED};
+use reckon::rules::{self, Tree, Usable, NODES, NONE, UNREACHED};
+use std::collections::HashSet;
 
 // Splitmix: the same numbers from the same seed, everywhere.
 pub struct Dice(u64);
@@ -80,6 +81,34 @@ impl Pairs {
         }
         self
     }
+
+    // Gives its link back to each link that has none, or to one in so many.
+    fn backed(&mut self, one_in: usize, dice: &mut Dice) {
+        let there: HashSet<(usize, usize)> = self.all.iter().copied().collect();
+        let lacking = |pair: &(usize, usize)| !there.contains(&(pair.1, pair.0));
+        let lacking: Vec<(usize, usize)> = self.all.iter().copied().filter(lacking).collect();
+        lacking.into_iter().filter(|_| dice.one_in(one_in)).for_each(|(a, b)| self.one(b, a));
+    }
+
+    // How many of the links are one-way: in half of the networks none, in the others some, on purpose. At times links stand
+    // several times, so that any of several is a link back.
+    fn one_way_or_both(mut self, dice: &mut Dice) -> Pairs {
+        match dice.below(8) {
+            0..=3 => self.backed(1, dice),
+            4 => self.backed(2, dice),
+            5 => {
+                self.backed(1, dice);
+                self.all.retain(|_| !dice.one_in(5));
+            }
+            6 => {
+                self.backed(1, dice);
+                let again: Vec<(usize, usize)> = self.all.iter().copied().filter(|_| dice.one_in(3)).collect();
+                self.all.extend(again);
+            }
+            _ => {}
+        }
+        self
+    }
 }
 
 pub const SHAPES: [&str; 8] = ["small", "grid", "chain", "star", "dense", "parallel", "ring", "large"];
@@ -111,7 +140,8 @@ fn pairs(shape: usize, dice: &mut Dice) -> Pairs {
         "ring" => ring(dice),
         _ => {
             let n = dice.from(100, NODES);
-            Pairs::of(n).any(dice.from(n, 4_096), dice)
+            let most = dice.pick(&[2_048, 4_096]);
+            Pairs::of(n).any(dice.from(n, most), dice)
         }
     }
 }
@@ -154,9 +184,10 @@ fn ring(dice: &mut Dice) -> Pairs {
 }
 
 // A network of a shape, with no edits, batches or asks yet. Nodes are renamed at random, so that the root and the order
-// of links may be anything.
+// of links may be anything. In one network of three some links are down, whatever the prices: links, links back, and some
+// of several links back.
 pub fn network(dice: &mut Dice, shape: usize, prices: Prices) -> Case {
-    let Pairs { nodes, all: mut pairs } = pairs(shape, dice);
+    let Pairs { nodes, all: mut pairs } = pairs(shape, dice).one_way_or_both(dice);
     let mut names: Vec<usize> = (0..nodes).collect();
     if dice.one_in(2) {
         shuffle(dice, &mut names);
@@ -166,12 +197,13 @@ pub fn network(dice: &mut Dice, shape: usize, prices: Prices) -> Case {
     pairs.truncate(4_096);
     let mut pairs: Vec<(usize, usize)> = pairs.into_iter().map(|(a, b)| (names[a], names[b])).collect();
     pairs.sort_by_key(|pair| pair.0);
+    let some_down = dice.one_in(3);
     Case {
         nodes,
         root: dice.below(nodes),
         starts: pairs.iter().map(|pair| pair.0 as u16).collect(),
         ends: pairs.iter().map(|pair| pair.1 as u16).collect(),
-        costs: pairs.iter().map(|_| prices.draw(dice)).collect(),
+        costs: pairs.iter().map(|_| if some_down && dice.one_in(6) { 0 } else { prices.draw(dice) }).collect(),
         ..Case::default()
     }
 }
@@ -182,8 +214,27 @@ pub fn shuffle<T>(dice: &mut Dice, list: &mut [T]) {
     }
 }
 
+// Puts links back of the first link given before it: all of them, or one, or one in its place.
+pub fn with_links_back(dice: &mut Dice, case: &Case, links: &mut Vec<u16>) {
+    let Some(first) = links.first().map(|link| *link as usize) else { return };
+    let leads_back =
+        |k: &u16| case.starts[*k as usize] == case.ends[first] && case.ends[*k as usize] == case.starts[first];
+    let mut back: Vec<u16> = (0..case.starts.len() as u16).filter(leads_back).collect();
+    shuffle(dice, &mut back);
+    match dice.below(3) {
+        0 => back.truncate(1),
+        1 if !back.is_empty() => {
+            back.truncate(1);
+            links.remove(0);
+        }
+        _ => {}
+    }
+    links.retain(|link| !back.contains(link));
+    links.splice(0..0, back);
+}
+
 // A batch of different links: often one row, at times none or as many as there may be. Every other batch starts with
-// favoured links.
+// favoured links. Every other has rows for the links back of one.
 fn batch(dice: &mut Dice, case: &Case, prices: Prices, favoured: &[u16]) -> Batch {
     let links = case.starts.len();
     let most = links.min(256);
@@ -200,12 +251,17 @@ fn batch(dice: &mut Dice, case: &Case, prices: Prices, favoured: &[u16]) -> Batc
         all.sort_by_key(|link| !favoured.contains(link));
     }
     all.truncate(rows);
+    if dice.one_in(2) {
+        with_links_back(dice, case, &mut all);
+        all.truncate(most);
+    }
     let costs = all
         .iter()
-        .map(|link| match dice.below(6) {
+        .map(|link| match dice.below(8) {
             0 => case.costs[*link as usize],
             1 => case.costs[*link as usize].saturating_add(1),
             2 => case.costs[*link as usize].saturating_sub(1),
+            3 => 0,
             _ => prices.draw(dice),
         })
         .collect();
@@ -239,11 +295,11 @@ pub fn from_another(seed: u64, shape: usize, batches: usize) -> Case {
     let mut case = run(seed, shape, batches, 3);
     let mut dice = Dice::new(!seed);
     let t = case.table();
-    let (_, fresh) = rules::build(&t);
+    let (usable, fresh) = (Usable::of(&t), rules::build(&t).1);
     let mut tree = fresh.clone();
     for k in 0..t.starts.len() {
         let end = t.ends[k] as usize;
-        if end != t.root && t.tight(&fresh.dist, k) && dice.one_in(2) {
+        if end != t.root && usable.tight(&fresh.dist, k) && dice.one_in(2) {
             tree.parent[end] = k as u16;
         }
     }

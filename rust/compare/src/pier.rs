@@ -26,7 +26,7 @@ const POINTS: [Point; 10] = [
     ("P7", &[&[(1, 5)]], P7, &[2, 3]),
     ("P8", &[&[(0, 0)]], P8, &[1, 2, 3]),
     ("P9", &[&[(6, 0)]], P9, &[3]),
-    ("P10", &[&[(7, 0)]], P1, &[]),
+    ("P10", &[&[(7, 0)]], P9, &[3]),
     // P2's rows in two batches end with another parent, as P5 does, or with P2's own.
     ("P2's two rows, one after the other,", &[&[(3, 5)], &[(0, 2)]], P4, &[1]),
     ("P2's two rows, the other way round,", &[&[(0, 2)], &[(3, 5)]], P2, &[2, 3]),

@@ -1,6 +1,6 @@
 // Streams whose lines can be stated without reckoning: the scope's own, and those at the sizes' ends. What is reckoned
 // must be these, and the program must print them too.
-use crate::streams::{ask, bytes, change, changes, link, network, pier, scope, stack, with};
+use crate::streams::{self, ask, bytes, change, changes, link, pier, scope, stack, stack_and_back, with};
 use reckon::stream::{lines, Record};
 
 type Stated = (String, Vec<u8>, String);
@@ -37,21 +37,21 @@ fn scope_cut(cut: usize) -> String {
 }
 
 fn sizes() -> Vec<(&'static str, Vec<Record>, &'static str)> {
-    let rows = |rows| with(stack(0, 1, 300), changes(0..rows));
+    let rows = |rows| with(stack_and_back(301), changes(0..rows));
     vec![
-        ("4,096 LINKs", with(stack(0, 1, 4_096), [ask(1)]), "N 1 9 0 0\n"),
-        ("4,097 LINKs", with(stack(0, 1, 4_097), [ask(1)]), "R 3 28677\n"),
+        ("4,096 LINKs", with(stack_and_back(4_096), [ask(1)]), "N 1 9 0 0\n"),
+        ("4,097 LINKs", with(stack_and_back(4_097), [ask(1)]), "R 3 28677\n"),
         ("4,097 LINKs, the last wrong", with(stack(2, 3, 4_096), [link(1, 1, 1)]), "R 3 28677\n"),
         (
             "4,096 LINKs, and one behind an ASK",
-            with(stack(0, 1, 4_096), [ask(1), link(0, 1, 1)]),
+            with(stack_and_back(4_096), [ask(1), link(0, 1, 1)]),
             "N 1 9 0 0\nR 23 28680\n",
         ),
         ("256 CHANGEs", with(rows(256), [Record::Apply, ask(1)]), "A 1 1\nN 1 5 0 0\n"),
-        ("256 CHANGEs, and one of no link", with(rows(256), [change(300, 5)]), "R 7 3385\n"),
-        ("256 CHANGEs, and one again", with(rows(256), [change(0, 5)]), "R 7 3385\n"),
-        ("255 CHANGEs, and the first again", with(rows(255), [change(0, 5)]), "R 9 3380 2105\n"),
-        ("257 CHANGEs", with(rows(257), [Record::Apply]), "R 7 3385\n"),
+        ("256 CHANGEs, and one of no link", with(rows(256), [change(301, 5)]), "R 7 3392\n"),
+        ("256 CHANGEs, and one again", with(rows(256), [change(0, 5)]), "R 7 3392\n"),
+        ("255 CHANGEs, and the first again", with(rows(255), [change(0, 5)]), "R 9 3387 2112\n"),
+        ("257 CHANGEs", with(rows(257), [Record::Apply]), "R 7 3392\n"),
         (
             "257 CHANGEs, an APPLY among them",
             with(rows(256), [Record::Apply, change(0, 1), Record::Apply]),
@@ -61,11 +61,23 @@ fn sizes() -> Vec<(&'static str, Vec<Record>, &'static str)> {
 }
 
 fn chain() -> Stated {
-    let mut records = vec![network(256, 0)];
-    records.extend((1..256).map(|end| link(end - 1, end, 65_535)));
-    records.extend((0..256).map(ask));
-    let rows = (1..256).map(|node| format!("N {node} {} {} 0\n", node * 65_535, node - 1));
+    let records = with(streams::chain(256), (0..256).map(ask));
+    let rows = (1..256).map(|node| format!("N {node} {} {} 0\n", node * 65_535, 2 * node - 2));
     ("a chain of 256 nodes".to_string(), bytes(&records), format!("N 0 0 - -\n{}", rows.collect::<String>()))
+}
+
+// The same without link 255, the link back from node 128 to the one before it: all from there on are unreached.
+fn broken_chain() -> Stated {
+    let down = [change(255, 0), Record::Apply];
+    let records = with(with(streams::chain(256), down), (0..256).map(ask));
+    let lost: String = (128..256).map(|node| format!(" {node}")).collect();
+    let rows = (0..256).map(|node| match node {
+        0 => "N 0 0 - -\n".to_string(),
+        1..=127 => format!("N {node} {} {} 0\n", node * 65_535, 2 * node - 2),
+        _ => format!("N {node} 16777215 - -\n"),
+    });
+    let printed = format!("A 128{lost}\n{}", rows.collect::<String>());
+    ("a chain without one link back".to_string(), bytes(&records), printed)
 }
 
 // The pier network and so many bytes in all, the rest APPLYs.
@@ -76,7 +88,8 @@ fn long(length: usize) -> Vec<u8> {
 }
 
 fn all() -> Vec<Stated> {
-    let mut all = vec![chain(), ("32,768 bytes".to_string(), long(32_768), "A 0\n".repeat(32_768 - 61))];
+    let mut all =
+        vec![chain(), broken_chain(), ("32,768 bytes".to_string(), long(32_768), "A 0\n".repeat(32_768 - 61))];
     for length in [32_769, 100_000] {
         all.push((format!("{length} bytes"), long(length), "R 24 32768\n".to_string()));
         all.push((format!("{length} bytes of no record"), vec![0; length], "R 24 32768\n".to_string()));

@@ -1,4 +1,5 @@
 // Making streams: from seeds, and those at each edge of the scope's words.
+use crate::case::Case;
 use crate::make::{self, shuffle, Dice, Prices};
 use reckon::stream::{Record, MOST_BYTES};
 
@@ -30,9 +31,8 @@ pub fn whole(seed: u64) -> Vec<Record> {
     let prices = Prices::any(&mut dice);
     let shape = dice.pick(&[0, 0, 0, 0, 0, 0, 5, 5, 5, 6, 6, 1, 2, 3, 4, 7]);
     let case = make::network(&mut dice, shape, prices);
-    let links = case.starts.len();
     let mut records = vec![network(case.nodes as u16, case.root as u16)];
-    records.extend((0..links).map(|k| link(case.starts[k], case.ends[k], case.costs[k])));
+    records.extend((0..case.starts.len()).map(|k| link(case.starts[k], case.ends[k], case.costs[k])));
     let mut named = Vec::new();
     for _ in 0..dice.below(9) {
         match dice.below(5) {
@@ -40,9 +40,9 @@ pub fn whole(seed: u64) -> Vec<Record> {
                 records.push(Record::Apply);
                 named.clear();
             }
-            1 | 2 => rows(&mut dice, prices, links, &mut named, &mut records),
+            1 | 2 => rows(&mut dice, prices, &case, &mut named, &mut records),
             _ => {
-                rows(&mut dice, prices, links, &mut named, &mut records);
+                rows(&mut dice, prices, &case, &mut named, &mut records);
                 records.push(Record::Apply);
                 named.clear();
                 asks(&mut dice, case.nodes, &mut records);
@@ -58,10 +58,14 @@ pub fn whole(seed: u64) -> Vec<Record> {
     records
 }
 
-// CHANGEs of links that no row has named since the last APPLY.
-fn rows(dice: &mut Dice, prices: Prices, links: usize, named: &mut Vec<u16>, records: &mut Vec<Record>) {
-    let mut free: Vec<u16> = (0..links as u16).filter(|link| !named.contains(link)).collect();
+// CHANGEs of links that no row has named since the last APPLY, at times of a link and its links back.
+fn rows(dice: &mut Dice, prices: Prices, case: &Case, named: &mut Vec<u16>, records: &mut Vec<Record>) {
+    let mut free: Vec<u16> = (0..case.starts.len() as u16).collect();
     shuffle(dice, &mut free);
+    if dice.one_in(2) {
+        make::with_links_back(dice, case, &mut free);
+    }
+    free.retain(|link| !named.contains(link));
     let most = free.len().min(256 - named.len());
     let count = if dice.one_in(8) { most } else { most.min(dice.from(1, 4)) };
     for link in free.into_iter().take(count) {
@@ -210,6 +214,21 @@ pub fn stack(start: u16, end: u16, links: usize) -> Vec<Record> {
     records
 }
 
+// So many links, the last of them from node 1 to node 0: the link back of all others.
+pub fn stack_and_back(links: usize) -> Vec<Record> {
+    with(stack(0, 1, links - 1), [link(1, 0, 9)])
+}
+
+// The nodes in a row, with links both ways at the dearest cost: the link to a node from the one before it is 2 * node - 2.
+pub fn chain(nodes: u16) -> Vec<Record> {
+    let mut records = vec![network(nodes, 0)];
+    for node in 0..256u16 {
+        records.extend(node.checked_sub(1).map(|before| link(node, before, 65_535)));
+        records.extend((node < 255).then(|| link(node, node + 1, 65_535)));
+    }
+    records
+}
+
 pub fn with(mut records: Vec<Record>, more: impl IntoIterator<Item = Record>) -> Vec<Record> {
     records.extend(more);
     records
@@ -221,7 +240,7 @@ pub fn changes(links: std::ops::Range<u16>) -> impl Iterator<Item = Record> {
 
 // What may have been read when the next record comes.
 fn situations() -> Vec<(&'static str, Vec<Record>)> {
-    let many = || stack(0, 1, 300);
+    let many = || stack_and_back(301);
     vec![
         ("nothing", vec![]),
         ("NETWORK", vec![network(4, 0)]),
@@ -255,7 +274,7 @@ fn next_records() -> Vec<Record> {
     }
     records.push(link(2, 3, 0));
     records.push(link(2, 3, 65_535));
-    records.extend([0, 3, 7, 8, 254, 255, 256, 299, 300, 4_094, 4_095, 4_096, 65_535].map(|link| change(link, 6)));
+    records.extend([0, 3, 7, 8, 254, 255, 256, 299, 300, 301, 4_094, 4_095, 4_096, 65_535].map(|link| change(link, 6)));
     records.extend([0, 1, 3, 4, 255, 256, 257, 65_535].map(ask));
     records
 }
@@ -307,7 +326,19 @@ pub fn kinds() -> Vec<Named> {
 
 // Whole streams cut at every byte.
 pub fn cuts() -> Vec<Named> {
-    let small = bytes(&[network(2, 1), link(1, 0, 300), ask(0), change(0, 2), Record::Apply, ask(0), ask(1)]);
+    let small = bytes(&[
+        network(2, 1),
+        link(0, 1, 700),
+        link(1, 0, 300),
+        ask(0),
+        change(1, 2),
+        Record::Apply,
+        ask(0),
+        change(0, 0),
+        Record::Apply,
+        ask(0),
+        ask(1),
+    ]);
     let mut all = Vec::new();
     for stream in [scope(), small] {
         all.extend((0..=stream.len()).map(|cut| (format!("cut at {cut}"), stream[..cut].to_vec())));
@@ -322,18 +353,16 @@ pub fn sizes() -> Vec<Named> {
     for nodes in [0, 1, 255, 256, 257, 65_535] {
         let asked = [0, 254, 255, 256].map(ask);
         add(format!("{nodes} nodes"), bytes(&with(vec![network(nodes, 0)], asked)));
-        let mut chain = vec![network(nodes, 0)];
-        chain.extend((1..256).map(|end| link(end - 1, end, 65_535)));
-        add(format!("a chain on {nodes} nodes"), bytes(&with(chain, (0..256).map(ask))));
+        add(format!("a chain on {nodes} nodes"), bytes(&with(chain(nodes), (0..256).map(ask))));
     }
     for links in [4_095, 4_096, 4_097] {
         let asked = [Record::Apply, ask(1)];
-        add(format!("{links} LINKs"), bytes(&with(stack(0, 1, links), asked)));
+        add(format!("{links} LINKs"), bytes(&with(stack_and_back(links), asked)));
         let last = [change(4_094, 1), change(4_095, 2), change(4_096, 3), Record::Apply, ask(1)];
-        add(format!("{links} LINKs, the last changed"), bytes(&with(stack(0, 1, links), last)));
+        add(format!("{links} LINKs, the last changed"), bytes(&with(stack_and_back(links), last)));
     }
     for rows in [255, 256, 257] {
-        let again = || with(stack(0, 1, 300), changes(0..rows));
+        let again = || with(stack_and_back(301), changes(0..rows));
         add(format!("{rows} rows"), bytes(&with(again(), [Record::Apply, ask(1)])));
         add(format!("{rows} rows left"), bytes(&with(again(), [ask(1)])));
         let twice = with(with(again(), [Record::Apply]), changes(0..rows));
@@ -356,8 +385,9 @@ pub fn sizes() -> Vec<Named> {
 // Streams that print far more than they have bytes: every node but the root changes at each APPLY. So many ASKs come
 // first that a part of the output may end anywhere in a line.
 pub fn long_lines() -> Vec<Named> {
-    let mut hub = vec![network(256, 0), link(0, 1, 1)];
+    let mut hub = vec![network(256, 0), link(0, 1, 1), link(1, 0, 1)];
     hub.extend((2..256).map(|end| link(1, end, 1)));
+    hub.extend((2..256).map(|start| link(start, 1, 1)));
     let batches = |count: usize| (0..count).flat_map(|at| [change(0, 2 + at as u16 % 7), Record::Apply]);
     let mut all = Vec::new();
     for asks in 0..40 {

@@ -6,7 +6,7 @@ use crate::make::{self, Dice};
 use crate::product::{rows_mut, Archive, Product};
 use crate::shrink;
 use crate::wrong;
-use reckon::rules::{self, Table, Tree, ACCEPTED, NODES};
+use reckon::rules::{self, Table, Tree, Usable, ACCEPTED, NODES};
 use routes::ffi::Batch as Columns;
 use std::collections::HashSet;
 use std::time::Instant;
@@ -57,8 +57,9 @@ impl State {
             return Err(format!("node {node}: distances {} and {}", self.tree.dist[node], other.tree.dist[node]));
         }
         let t = Table { costs: &self.costs, ..case.table() };
+        let usable = Usable::of(&t);
         let tight = |node: usize| {
-            (0..t.starts.len()).filter(|k| t.ends[*k] as usize == node && t.tight(&self.tree.dist, *k)).count()
+            (0..t.starts.len()).filter(|k| t.ends[*k] as usize == node && usable.tight(&self.tree.dist, *k)).count()
         };
         let moved: Vec<usize> = (0..NODES).filter(|v| self.tree.parent[*v] != other.tree.parent[*v]).collect();
         match moved.iter().find(|node| tight(**node) < 2) {

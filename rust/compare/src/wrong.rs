@@ -3,7 +3,7 @@ use crate::case::{differs, Case};
 use crate::make;
 use crate::product::{rows_mut, Answer, Archive, Product};
 use crate::shrink;
-use reckon::rules::{Table, Told, Tree, NODES, NONE, UNREACHED};
+use reckon::rules::{Table, Told, Tree, Usable, NODES, NONE, UNREACHED};
 use routes::ffi::{Batch, RowsMut};
 
 // The right product, but for one job.
@@ -20,7 +20,7 @@ enum Turn {
     Path(fn(&Table, &Tree, usize, &mut [u16]) -> Answer),
 }
 
-static TURNS: [Wrong; 16] = [
+static TURNS: [Wrong; 22] = [
     Wrong { name: "rebuilds from nothing", turn: Turn::Update(rebuilds) },
     Wrong { name: "raises, then lowers", turn: Turn::Update(raises_then_lowers) },
     Wrong { name: "tells a link by its end nodes", turn: Turn::Update(tells_by_ends) },
@@ -34,6 +34,12 @@ static TURNS: [Wrong; 16] = [
     Wrong { name: "gives 9 before 8", turn: Turn::Update(nine_before_eight) },
     Wrong { name: "tells the row before as the earlier one", turn: Turn::Update(row_before) },
     Wrong { name: "tells a second value with 8", turn: Turn::Update(second_with_eight) },
+    Wrong { name: "misses that a link back went down", turn: Turn::Update(misses_down) },
+    Wrong { name: "misses that a link back came up", turn: Turn::Update(misses_up) },
+    Wrong { name: "takes a one-way link", turn: Turn::JudgeTree(takes_one_way) },
+    Wrong { name: "takes a link back that is down", turn: Turn::JudgeTree(takes_one_down) },
+    Wrong { name: "takes any link that leaves the end", turn: Turn::JudgeTree(takes_any_leaving) },
+    Wrong { name: "takes any link that enters the start", turn: Turn::JudgeTree(takes_any_entering) },
     Wrong { name: "sums in 32 bits", turn: Turn::JudgeTree(sums_in_32_bits) },
     Wrong { name: "gives 5 before 4", turn: Turn::JudgeLinks(five_before_four) },
     Wrong { name: "tells a path from the asked node upward", turn: Turn::Path(upward) },
@@ -234,6 +240,31 @@ fn second_with_eight(u: &mut Update) -> Answer {
     }
 }
 
+// Its rows only take down links that nothing hangs on: so nothing is asked.
+fn misses_down(u: &mut Update) -> Answer {
+    let Batch { links, costs } = u.batch;
+    u.then(|u| {
+        let unused = |row: usize| costs[row] == 0 && !u.old.parent.contains(&links[row]);
+        if (0..u.rows()).all(unused) {
+            u.tree = u.old.clone();
+        }
+        u.listing_changed()
+    })
+}
+
+// Its rows only bring up links that leave unreached nodes: so nothing is offered.
+fn misses_up(u: &mut Update) -> Answer {
+    let Batch { links, costs } = u.batch;
+    let starts = u.t.starts;
+    u.then(|u| {
+        let offers_none = |row: usize| costs[row] != 0 && u.old.dist[starts[links[row] as usize] as usize] == UNREACHED;
+        if (0..u.rows()).all(offers_none) {
+            u.tree = u.old.clone();
+        }
+        u.listing_changed()
+    })
+}
+
 // ---- the other jobs
 
 fn five_before_four(t: &Table) -> Told {
@@ -244,33 +275,75 @@ fn five_before_four(t: &Table) -> Told {
     }
 }
 
-fn sums_in_32_bits(t: &Table, tree: &Tree) -> Told {
-    match Archive.judge_tree(t, tree) {
-        (6, _) => (0..NODES).find(|v| breaks_in_32_bits(t, tree, *v)).map_or((0, [0, 0]), |v| (6, [v as u16, 0])),
-        told => told,
+// A tree judged by other sums, or by another meaning of usable.
+struct Judging<'a> {
+    t: &'a Table<'a>,
+    usable: &'a dyn Fn(usize) -> bool,
+    sum: fn(u32, u16) -> u64,
+}
+
+impl Judging<'_> {
+    fn judge(&self, tree: &Tree) -> Told {
+        match Archive.judge_links(self.t) {
+            (0, _) => (0..NODES).find(|v| self.breaks(tree, *v)).map_or((0, [0, 0]), |v| (6, [v as u16, 0])),
+            told => told,
+        }
+    }
+
+    // Whether a node breaks a rule.
+    fn breaks(&self, tree: &Tree, v: usize) -> bool {
+        let Judging { t, usable, sum } = self;
+        let start = |k: usize| t.starts[k] as usize;
+        let offer = |k: usize| sum(tree.dist[start(k)], t.costs[k]);
+        let enters = |k: usize| t.ends[k] as usize == v && usable(k) && tree.dist[start(k)] != UNREACHED;
+        let (d, p, f) = (tree.dist[v], tree.parent[v] as usize, tree.first[v]);
+        let empty = (d, tree.parent[v], f) == (UNREACHED, NONE, NONE);
+        if v == t.root {
+            return (d, tree.parent[v], f) != (0, NONE, NONE);
+        }
+        if v >= t.nodes {
+            return !empty;
+        }
+        if d == UNREACHED {
+            return !empty || (0..t.starts.len()).any(enters);
+        }
+        let hangs = p < t.starts.len() && enters(p) && offer(p) == d as u64;
+        !hangs
+            || f != if start(p) == t.root { p as u16 } else { tree.first[start(p)] }
+            || (0..t.starts.len()).any(|k| enters(k) && offer(k) < d as u64)
     }
 }
 
-// Whether a node breaks a rule, with sums that wrap.
-fn breaks_in_32_bits(t: &Table, tree: &Tree, v: usize) -> bool {
-    let start = |k: usize| t.starts[k] as usize;
-    let offer = |k: usize| tree.dist[start(k)].wrapping_add(t.costs[k] as u32);
-    let enters = |k: usize| t.ends[k] as usize == v && t.costs[k] != 0 && tree.dist[start(k)] != UNREACHED;
-    let (d, p, f) = (tree.dist[v], tree.parent[v] as usize, tree.first[v]);
-    let empty = (d, tree.parent[v], f) == (UNREACHED, NONE, NONE);
-    if v == t.root {
-        return (d, tree.parent[v], f) != (0, NONE, NONE);
+fn sums_in_32_bits(t: &Table, tree: &Tree) -> Told {
+    if Archive.judge_links(t).0 != 0 {
+        return Archive.judge_tree(t, tree);
     }
-    if v >= t.nodes {
-        return !empty;
-    }
-    if d == UNREACHED {
-        return !empty || (0..t.starts.len()).any(enters);
-    }
-    let hangs = p < t.starts.len() && enters(p) && offer(p) == d;
-    !hangs
-        || f != if start(p) == t.root { p as u16 } else { tree.first[start(p)] }
-        || (0..t.starts.len()).any(|k| enters(k) && offer(k) < d)
+    let usable = Usable::of(t);
+    let sum = |distance: u32, cost: u16| distance.wrapping_add(cost as u32) as u64;
+    Judging { t, usable: &|k| usable.has(k), sum }.judge(tree)
+}
+
+// A link that is up is usable where some link passes the test as its link back.
+fn with_link_back(t: &Table, tree: &Tree, is_back: fn(&Table, usize, usize) -> bool) -> Told {
+    let usable = |k: usize| t.costs[k] != 0 && (0..t.starts.len()).any(|back| is_back(t, k, back));
+    let sum = |distance: u32, cost: u16| distance as u64 + cost as u64;
+    Judging { t, usable: &usable, sum }.judge(tree)
+}
+
+fn takes_one_way(t: &Table, tree: &Tree) -> Told {
+    with_link_back(t, tree, |_, _, _| true)
+}
+
+fn takes_one_down(t: &Table, tree: &Tree) -> Told {
+    with_link_back(t, tree, |t, k, back| t.starts[back] == t.ends[k] && t.ends[back] == t.starts[k])
+}
+
+fn takes_any_leaving(t: &Table, tree: &Tree) -> Told {
+    with_link_back(t, tree, |t, k, back| t.starts[back] == t.ends[k] && t.costs[back] != 0)
+}
+
+fn takes_any_entering(t: &Table, tree: &Tree) -> Told {
+    with_link_back(t, tree, |t, k, back| t.ends[back] == t.starts[k] && t.costs[back] != 0)
 }
 
 fn upward(t: &Table, tree: &Tree, asked: usize, list: &mut [u16]) -> Answer {

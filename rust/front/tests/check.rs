@@ -24,9 +24,9 @@ fn differing(text: &str, printing: impl Fn(&[u8]) -> String + Sync) -> String {
     check(&Printing(printing), &input(text)).unwrap_err()
 }
 
-// A chain of 256 nodes, and so many batches that each change its first link.
+// A chain of 256 nodes, links both ways, and so many batches that each change its first link.
 fn chain(batches: usize) -> String {
-    let links: String = (1..256).map(|end| format!("link {} {end} 7\n", end - 1)).collect();
+    let links: String = (1..256).map(|end| format!("link {} {end} 7 both 7\n", end - 1)).collect();
     let rows: String = (0..batches).map(|at| format!("change 0 {}\napply\n", at + 1)).collect();
     format!("network 256 root 0\n{links}{rows}")
 }
@@ -51,7 +51,7 @@ fn what_is_refused_is_compared_up_to_there() {
 // In a stream that is full to the last bytes the rows are asked for one at a time, and at last not at all.
 #[test]
 fn a_full_stream() {
-    let links = "link 0 1 5\n".repeat(4_096);
+    let links = "link 0 1 5\n".repeat(4_095) + "link 1 0 5\n";
     let batch = |rows: u16| (0..rows).map(|link| format!("change {link} 9\n")).collect::<String>() + "apply\n";
     // Behind the last of these batches 7 bytes are left, and two rows can be asked for at once.
     let text = format!("network 2 root 0\n{links}{}{}", batch(256).repeat(3), batch(48));
@@ -65,7 +65,7 @@ fn a_full_stream() {
 
 #[test]
 fn another_line() {
-    let text = "network 2 root 0\nlink 0 1 5\n\nask 1\nchange 0 9\napply\n";
+    let text = "network 2 root 0\nlink 0 1 5 both 5\n\nask 1\nchange 0 9\napply\n";
     let due = "my.txt:4: ask 1: routes prints `N 1 6 0 0`, due is `N 1 5 0 0`";
     assert_eq!(differing(text, |stream| lines(stream).replace("N 1 5", "N 1 6")), due);
     let due = "my.txt:6: apply: routes prints nothing, due is `A 1 1`";
@@ -77,8 +77,8 @@ fn another_line() {
 // The stream asks for no row, so that its own lines are as they should be.
 #[test]
 fn another_row() {
-    let text = "network 2 root 0\nlink 0 1 5\nchange 0 9\napply\n";
-    let due = "my.txt:2: link 0 1 5: routes prints `N 1 6 0 0`, due is `N 1 5 0 0`";
+    let text = "network 2 root 0\nlink 0 1 5 both 7\nchange 0 9\napply\n";
+    let due = "my.txt:2: link 0 1 5 both 7: routes prints `N 1 6 0 0`, due is `N 1 5 0 0`";
     assert_eq!(differing(text, |stream| lines(stream).replace("N 1 5", "N 1 6")), due);
     let due = "my.txt:4: apply: routes prints `N 1 9 0 -`, due is `N 1 9 0 0`";
     assert_eq!(differing(text, |stream| lines(stream).replace("N 1 9 0 0", "N 1 9 0 -")), due);
@@ -86,4 +86,14 @@ fn another_row() {
         |stream: &[u8]| if lines(stream).contains('N') { lines(stream).replace("A 1 1", "A 0") } else { lines(stream) };
     let due = "my.txt:4: apply: asked for every row then, routes prints other lines before";
     assert_eq!(differing(text, shown), due);
+}
+
+// A program for which a link needs no link back, so that a link back that goes down changes nothing.
+#[test]
+fn a_link_without_its_link_back() {
+    let text = "network 2 root 0\nlink 0 1 5 both 7\nchange 1 0\napply\n";
+    let due = "my.txt:4: apply: routes prints `A 0`, due is `A 1 1`";
+    assert_eq!(differing(text, |stream| lines(stream).replace("A 1 1", "A 0")), due);
+    let due = "my.txt:4: apply: routes prints `N 1 5 0 0`, due is `N 1 16777215 - -`";
+    assert_eq!(differing(text, |stream| lines(stream).replace("N 1 16777215 - -", "N 1 5 0 0")), due);
 }

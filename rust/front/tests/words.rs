@@ -37,6 +37,20 @@ fn at_network() {
     );
 }
 
+// Both links of a pair are told by their one line.
+#[test]
+fn at_a_pair_of_links() {
+    let pairs = |last: &str| told(&format!("network 3 root 0\nlink 0 1 4 both 4\n{last}\n"));
+    let due = "my.txt:3: link 1 7 5 both 5: there is no node 7: the nodes are 0 to 2 (refusal 4)";
+    assert_eq!(pairs("link 1 7 5 both 5"), due);
+    let due = "my.txt:3: link 1 1 5 both 5: a link leads to another node than its start (refusal 4)";
+    assert_eq!(pairs("link 1 1 5 both 5"), due);
+    let due = "my.txt:5: link 0 1 5 both 5: links stand right behind `network`, before any other record (refusal 23)";
+    assert_eq!(pairs("link 1 2 5 both 5\nask 2\nlink 0 1 5 both 5"), due);
+    let due = "my.txt:4: change 4 5: there is no link 4: the links are 0 to 3 (refusal 8)";
+    assert_eq!(pairs("link 1 2 5 both 5\nchange 4 5"), due);
+}
+
 #[test]
 fn at_link() {
     let many = format!("network 2 root 0\n{}", "link 0 1 5\n".repeat(4_097));

@@ -37,16 +37,38 @@ impl Table<'_> {
     fn end(&self, link: usize) -> usize {
         self.ends[link] as usize
     }
-    fn usable(&self, link: usize) -> bool {
-        self.costs[link] != 0
+}
+
+/// A table that judging accepts, and which of its links are usable: those that are up and that some link which is up leads
+/// back from.
+pub struct Usable<'a> {
+    table: Table<'a>,
+    links: Vec<bool>,
+}
+
+impl<'a> Usable<'a> {
+    /// First every pair of nodes that a link which is up joins is noted, then each link asks for its own pair the other way
+    /// round.
+    pub fn of(table: &Table<'a>) -> Usable<'a> {
+        let up = |link: &usize| table.costs[*link] != 0;
+        let pair = |from: usize, to: usize| from * table.nodes + to;
+        let mut joined = vec![false; table.nodes * table.nodes];
+        for link in (0..table.links()).filter(up) {
+            joined[pair(table.start(link), table.end(link))] = true;
+        }
+        let usable = |link: usize| up(&link) && joined[pair(table.end(link), table.start(link))];
+        Usable { table: *table, links: (0..table.links()).map(usable).collect() }
+    }
+    pub fn has(&self, link: usize) -> bool {
+        self.links[link]
     }
     // What a usable link from a reached node offers its end.
     fn offer(&self, dist: &[u32; NODES], link: usize) -> Option<u64> {
-        let d = dist[self.start(link)];
-        (self.usable(link) && d != UNREACHED).then(|| d as u64 + self.costs[link] as u64)
+        let d = dist[self.table.start(link)];
+        (self.has(link) && d != UNREACHED).then(|| d as u64 + self.table.costs[link] as u64)
     }
     pub fn tight(&self, dist: &[u32; NODES], link: usize) -> bool {
-        self.offer(dist, link) == Some(dist[self.end(link)] as u64)
+        self.offer(dist, link) == Some(dist[self.table.end(link)] as u64)
     }
 }
 
@@ -74,7 +96,8 @@ pub fn judge_links(t: &Table) -> Told {
 }
 
 // Whether the node breaks a rule.
-fn breaks(t: &Table, tree: &Tree, node: usize) -> bool {
+fn breaks(usable: &Usable, tree: &Tree, node: usize) -> bool {
+    let t = &usable.table;
     let (d, p, f) = (tree.dist[node], tree.parent[node], tree.first[node]);
     if node == t.root {
         return (d, p, f) != (0, NONE, NONE);
@@ -84,15 +107,15 @@ fn breaks(t: &Table, tree: &Tree, node: usize) -> bool {
     }
     let mut entering = (0..t.links()).filter(|k| t.end(*k) == node);
     if d == UNREACHED {
-        return (p, f) != (NONE, NONE) || entering.any(|k| t.offer(&tree.dist, k).is_some());
+        return (p, f) != (NONE, NONE) || entering.any(|k| usable.offer(&tree.dist, k).is_some());
     }
     let link = p as usize;
-    if link >= t.links() || t.end(link) != node || !t.tight(&tree.dist, link) {
+    if link >= t.links() || t.end(link) != node || !usable.tight(&tree.dist, link) {
         return true;
     }
     let start = t.start(link);
     let rightful = if start == t.root { p } else { tree.first[start] };
-    f != rightful || entering.any(|k| t.offer(&tree.dist, k).is_some_and(|sum| sum < d as u64))
+    f != rightful || entering.any(|k| usable.offer(&tree.dist, k).is_some_and(|sum| sum < d as u64))
 }
 
 pub fn judge_tree(t: &Table, tree: &Tree) -> Told {
@@ -100,20 +123,22 @@ pub fn judge_tree(t: &Table, tree: &Tree) -> Told {
     if told != ACCEPTED {
         return told;
     }
-    match (0..NODES).find(|node| breaks(t, tree, *node)) {
+    let usable = Usable::of(t);
+    match (0..NODES).find(|node| breaks(&usable, tree, *node)) {
         Some(node) => (6, [node as u16, 0]),
         None => ACCEPTED,
     }
 }
 
 // The least sums.
-fn least(t: &Table) -> [u32; NODES] {
+fn least(usable: &Usable) -> [u32; NODES] {
+    let t = &usable.table;
     let mut dist = [UNREACHED; NODES];
     dist[t.root] = 0;
     loop {
         let mut moved = false;
         for k in 0..t.links() {
-            if let Some(sum) = t.offer(&dist, k) {
+            if let Some(sum) = usable.offer(&dist, k) {
                 if sum < dist[t.end(k)] as u64 {
                     dist[t.end(k)] = sum as u32;
                     moved = true;
@@ -129,16 +154,17 @@ fn least(t: &Table) -> [u32; NODES] {
 // The tree of the least sums: a node keeps its old parent link where that is tight, and any other takes its tight link of
 // smallest number.
 fn grown(t: &Table, old: &[u16; NODES]) -> Tree {
+    let usable = Usable::of(t);
     let mut tree = EMPTY;
-    tree.dist = least(t);
+    tree.dist = least(&usable);
     for k in (0..t.links()).rev() {
-        if t.end(k) != t.root && t.tight(&tree.dist, k) {
+        if t.end(k) != t.root && usable.tight(&tree.dist, k) {
             tree.parent[t.end(k)] = k as u16;
         }
     }
     for node in (0..t.nodes).filter(|v| *v != t.root) {
         let kept = old[node] as usize;
-        if kept < t.links() && t.end(kept) == node && t.tight(&tree.dist, kept) {
+        if kept < t.links() && t.end(kept) == node && usable.tight(&tree.dist, kept) {
             tree.parent[node] = kept as u16;
         }
     }

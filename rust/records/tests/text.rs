@@ -1,5 +1,5 @@
 // Text to bytes and back: each kind of line, every stream of bytes, and each thing that can be wrong with a line.
-use records::{to_bytes, to_text};
+use records::{to_bytes, to_text, Stream};
 
 fn bytes(text: &str) -> Vec<u8> {
     to_bytes(text.as_bytes()).unwrap()
@@ -47,6 +47,74 @@ fn a_record_cut_at_every_byte() {
     for cut in 0..whole.len() {
         assert_eq!(bytes(&to_text(&whole[..cut])), whole[..cut]);
     }
+}
+
+// The text that a text with `both` comes back as: its LINKs in the order in which they get their numbers.
+fn plain(text: &str) -> String {
+    to_text(&bytes(text))
+}
+
+#[test]
+fn a_link_and_its_link_back() {
+    assert_eq!(plain("link 0 1 4 both 6"), "link 0 1 4\nlink 1 0 6\n");
+    assert_eq!(plain("link 7 3 0 both 65535"), "link 3 7 65535\nlink 7 3 0\n");
+    assert_eq!(plain("link 2 2 4 both 6"), "link 2 2 4\nlink 2 2 6\n");
+}
+
+// The pier network, whose links have these numbers in the scope.
+#[test]
+fn links_both_ways_stand_in_the_order_of_their_starts() {
+    let pairs = "link 0 1 4 both 4\nlink 0 2 7 both 7\n\n# a comment\nlink 1 2 2 both 2\nlink 2 3 1 both 1\n";
+    let links = "link 0 1 4\nlink 0 2 7\nlink 1 0 4\nlink 1 2 2\nlink 2 0 7\nlink 2 1 2\nlink 2 3 1\nlink 3 2 1\n";
+    assert_eq!(plain(&format!("network 4 root 0\n{pairs}ask 3\n")), format!("network 4 root 0\n{links}ask 3\n"));
+}
+
+// Links of one start stay as they are written, links back among them.
+#[test]
+fn links_of_one_start_stay_as_they_are_written() {
+    assert_eq!(
+        plain("link 0 1 1\nlink 0 1 2 both 3\nlink 1 0 4\nlink 1 0 5 both 6\nlink 1 0 7"),
+        "link 0 1 1\nlink 0 1 2\nlink 0 1 6\nlink 1 0 3\nlink 1 0 4\nlink 1 0 5\nlink 1 0 7\n"
+    );
+}
+
+// Only links that follow one another change their order, and only where `both` is among them.
+#[test]
+fn other_records_stay_where_they_are() {
+    let text = "link 2 0 1\nlink 1 0 1\nask 3\n";
+    assert_eq!(plain(text), text);
+    assert_eq!(plain(&format!("{text}link 0 1 4 both 6\napply")), format!("{text}link 0 1 4\nlink 1 0 6\napply\n"));
+    assert_eq!(bytes("link 3 1 4 both 6\nbytes 04\nlink 0 1 1"), bytes("link 1 3 6\nlink 3 1 4\napply\nlink 0 1 1"));
+}
+
+#[test]
+fn each_link_of_a_pair_has_its_line() {
+    let stream =
+        Stream::of_text(b"network 3 root 0\nlink 0 1 4 both 6 # there and back\nlink 0 2 7 both 7\nask 2").unwrap();
+    let lines = [(1, 0), (2, 5), (3, 12), (2, 19), (3, 26), (4, 33)];
+    assert_eq!(stream.lines.iter().map(|line| (line.number, line.place)).collect::<Vec<_>>(), lines);
+    let line = stream.line_at(20).unwrap();
+    assert_eq!((line.number, line.said.as_str()), (2, "link 0 1 4 both 6"));
+}
+
+#[test]
+fn both_without_its_cost() {
+    let due = "line 1: `both` stands between a link's cost and that of its link back, as in `link 0 1 4 both 6`";
+    for text in ["link both", "link 0 1 both 6", "link 0 1 4 both", "link 0 1 4 both 6 7", "link both 0 1 4 6"] {
+        assert_eq!(wrong(text), due);
+    }
+    assert_eq!(wrong("link 0 1 4 both x"), "line 1: x is no number from 0 to 65535");
+    assert_eq!(wrong("link 0 1 4 6"), "line 1: `link` takes start, end and cost: 4 numbers given");
+    assert_eq!(wrong("change 3 both 5"), "line 1: both is no number from 0 to 65535");
+}
+
+// A start that falls is left to the program to refuse, but where links back have to find their places.
+#[test]
+fn both_with_a_start_that_falls() {
+    let due = "line 4: its start is below that of line 2: where `both` is used, starts never fall from line to line";
+    assert_eq!(wrong("network 4 root 0\nlink 2 3 1 both 1\n\nlink 1 3 1\nlink 0 1 1"), due);
+    assert_eq!(wrong("network 4 root 0\nlink 2 3 1\n\nlink 1 3 1 both 1"), due);
+    assert_eq!(plain("link 1 3 1 both 1\nlink 2 0 1 both 1"), "link 0 2 1\nlink 1 3 1\nlink 2 0 1\nlink 3 1 1\n");
 }
 
 // Splitmix: the same numbers from the same seed, everywhere.

@@ -25,13 +25,19 @@ fn read_columns(text: &str) -> Vec<Columns> {
 
 type Graph = DiGraph<(), u32>;
 
-// The usable links: a link of cost 0 is down.
+// The usable links: a link of cost 0 is down, and one that no link which is up leads back from is no link.
 fn graph(columns: &Columns) -> Graph {
+    let pair = |start: u16, end: u16| start as usize * columns.nodes + end as usize;
+    let mut joined = vec![false; columns.nodes * columns.nodes];
+    for &(start, end, cost) in &columns.links {
+        joined[pair(start, end)] |= cost != 0;
+    }
+    let usable = |link: &&(u16, u16, u16)| link.2 != 0 && joined[pair(link.1, link.0)];
     let mut graph = Graph::with_capacity(columns.nodes, columns.links.len());
     for _ in 0..columns.nodes {
         graph.add_node(());
     }
-    for &(start, end, cost) in columns.links.iter().filter(|link| link.2 != 0) {
+    for &(start, end, cost) in columns.links.iter().filter(usable) {
         graph.add_edge(NodeIndex::new(start as usize), NodeIndex::new(end as usize), cost as u32);
     }
     graph

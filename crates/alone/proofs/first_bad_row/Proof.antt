@@ -11,17 +11,20 @@ use Rattle.alone.proofs.first_bad_row.Statement.{statement}
 use Rattle.alone.proofs.first_bad_row.Tie as tie
 
 abbrev Inv-loop : tie.InvT-loop
-Inv-loop profile nodes root starts ends narrow wide dist parent first v₀ v =
+Inv-loop profile nodes root starts ends narrow wide dist parent first backed v₀ v =
     (v ≤ mostNodes) × RightBefore (netIn profile (tableAt nodes root starts ends narrow wide)) (rowsIn profile (arrays dist parent first)) v
 
 abbrev μ-loop : tie.MeasureT-loop
-μ-loop profile nodes root starts ends narrow wide dist parent first v₀ v = mostNodes - v
+μ-loop profile nodes root starts ends narrow wide dist parent first backed v₀ v = mostNodes - v
+
+led-back-requires : tie.Need-led-back-requires Inv-loop μ-loop
+led-back-requires c κs = let pre = c .before .before .before .before .before .before .before .pre in (pre .0, pre .1 .parent)
 
 loop-holds : tie.Need-loop-holds Inv-loop μ-loop
 loop-holds c = (search needs, right-none _ _)
 
 row-right-requires : tie.Need-row-right-requires Inv-loop μ-loop
-row-right-requires c κs = let pre = c .before .before .before .before .before .before .before .before .before .pre in (pre .0, pre .1, omega arith)
+row-right-requires c κs = let pre = c .before .before .before .before .before .before .before .before .before .before .before .pre in (pre .0, pre .1, omega arith, c .before .before .before .led-back .ensures)
 
 add-v : tie.Need-add-v Inv-loop μ-loop
 add-v c = search needs
@@ -30,12 +33,12 @@ loop-less : tie.Need-loop-less Inv-loop μ-loop
 loop-less c = search needs
 
 loop-again : tie.Need-loop-again Inv-loop μ-loop
-loop-again c = (search needs, right-more (c .before .before .before .loop .inv .1) (c .before .row-right .ensures) (c .if1 .taken))
+loop-again c = (search needs, right-more (c .before .before .before .before .loop .inv .1) (c .before .row-right .ensures) (c .if1 .taken))
 
 returns : tie.Need-returns Inv-loop μ-loop
 returns c = record {
   within = search needs;
-  before = c .before .before .before .loop .inv .1;
+  before = c .before .before .before .before .loop .inv .1;
   wrong = λ l. sym (c .before .row-right .ensures) ∙ c .if1 .left;
 }
 
@@ -48,6 +51,7 @@ first-bad-row-spec =
     (tie.spec
     Inv-loop
     μ-loop
+    led-back-requires
     loop-holds
     row-right-requires
     add-v

@@ -8,6 +8,7 @@ use Rattle.rules.specs.Fit.{Rows}
 use Rattle.rules.specs.Columns.{arrays, netIn, rowsIn, noLink}
 use Rattle.usable.specs.Standing.{tableAt}
 use Rattle.usable.proofs.Reading.{read-row}
+use Rattle.backed.proofs.Marks.{above-link}
 use Rattle.alone.proofs.Laws.{hung-past, hung-far, hung-unlinked, hung-by}
 use Rattle.alone.proofs.hung.Statement.{statement}
 use Rattle.alone.proofs.hung.Tie as tie
@@ -54,13 +55,20 @@ returns-3 c =
     let entry = c .before .before .before .before .before .before .before .before .before .before .before .before .before in
     hung-unlinked (net entry) (rows entry) _ (c .before .before .before .before .before .if1 .left) (omega (arith, dist-read entry)) (omega (arith, parent-read entry))
 
+element-copy-out-hung-by : tie.Need-element-copy-out-hung-by
+element-copy-out-hung-by c = search needs
+
 hung-by-requires : tie.Need-hung-by-requires
-hung-by-requires c κs = let pre = c .before .before .before .before .before .before .before .before .before .before .before .before .before .pre in (pre .0, pre .1 .dist, pre .1 .first, c .if3 .left, pre .2)
+hung-by-requires c κs =
+    let entry = c .before .before .before .before .before .before .before .before .before .before .before .before .before .before in
+    let pre = entry .pre in
+    let starts = above-link (entry .args .starts .now) (getD (entry .args .parent .now) (entry .args .v) 0) (c .before .if3 .left) in
+    (pre .0, pre .1 .dist, pre .1 .first, c .before .if3 .left, pre .2, rw (← starts) at (pre .3 .each (entry .args .v) (pre .2)))
 
 returns-4 : tie.Need-returns-4
 returns-4 c =
-    let entry = c .before .before .before .before .before .before .before .before .before .before .before .before .before .before in
-    hung-by (net entry) (rows entry) _ (c .before .before .before .before .before .before .if1 .left) (omega (arith, dist-read entry)) (rw (parent-read entry) at (c .hung-by .ensures))
+    let entry = c .before .before .before .before .before .before .before .before .before .before .before .before .before .before .before in
+    hung-by (net entry) (rows entry) _ (c .before .before .before .before .before .before .before .if1 .left) (omega (arith, dist-read entry)) (rw (parent-read entry) at (c .hung-by .ensures))
 
 pub hung-spec : {M : Type 1} → statement M
 hung-spec =
@@ -75,5 +83,6 @@ hung-spec =
     shared-slice-read-by
     cast-if3
     returns-3
+    element-copy-out-hung-by
     hung-by-requires
     returns-4)

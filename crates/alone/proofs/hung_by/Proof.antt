@@ -1,8 +1,10 @@
 -- `alone::hung_by` meets its contract: what is read of the link, of its start and of the node decides. Assumes nothing.
+use mathlib.Core.Path.{_∙_}
 use native.Mathlib.Omega.{arith}
+use lib.ListN.{getD}
 use borrow.Author.Needs.{needs}
 use borrow.Author.Tests.{eq-eqb, ne-eqb}
-use Rattle.alone.proofs.Laws.{hung-by-reads}
+use Rattle.alone.proofs.Laws.{hung-by-reads, usable-marked, tight-ends}
 use Rattle.usable.proofs.Reading.{start-has-row}
 use Rattle.alone.proofs.hung_by.Statement.{statement}
 use Rattle.alone.proofs.hung_by.Tie as tie
@@ -55,16 +57,20 @@ shared-slice-read-first-by c = let pre = c .before .before .before .before .befo
 first-by-requires : tie.Need-first-by-requires
 first-by-requires c κs = search needs
 
-usable-requires : tie.Need-usable-requires
-usable-requires c κs = let pre = c .before .before .before .before .before .before .before .before .before .before .before .before .before .before .before .before .before .pre in (pre .3, pre .0 .costs-long)
+usable-by-requires : tie.Need-usable-by-requires
+usable-by-requires c κs = let pre = c .before .before .before .before .before .before .before .before .before .before .before .before .before .before .before .before .before .pre in omega (arith, pre .0 .costs-long)
 
 returns : tie.Need-returns
 returns c =
     let entry = c .before .before .before .before .before .before .before .before .before .before .before .before .before .before .before .before .before .before in
     let pre = entry .pre in
+    let dist = entry .args .dist .now in
+    let from = getD dist (getD (entry .args .starts .now) (entry .args .by) 0) 0 in
+    let end = getD (entry .args .ends .now) (entry .args .by) 0 in
+    let ends = tight-ends (entry .args .profile .mark) (entry .args .v) (getD dist (entry .args .v) 0) end (c .before .before .before .before .before .before .before .before .before .before .at .result) from (c .before .before .before .before .before .before .tight-by .ensures) (c .before .before .before .before .before .if1 .taken) in
     let reads = hung-by-reads (entry .args .profile) (pre .0) (entry .args .dist .now) (pre .1) (pre .3) (entry .args .first .now) (pre .2) (entry .args .v) (pre .4) in
     rw (reads, ← c .before .before .before .before .before .before .before .before .before .before .at .ensures, ← c .before .before .before .before .before .before .tight-by .ensures, c .before .before .before .before .before .if1 .taken, ← c .before .before .first-by .ensures, eq-eqb _ _ (c .before .if2 .taken))
-    (c .usable .ensures)
+    (c .usable-by .ensures ∙ usable-marked (entry .args .profile) (pre .0) (entry .args .dist .now) (pre .1) (pre .3) ends (pre .5))
 
 returns-2 : tie.Need-returns-2
 returns-2 c =
@@ -100,7 +106,7 @@ hung-by-spec =
     mul-first-by
     shared-slice-read-first-by
     first-by-requires
-    usable-requires
+    usable-by-requires
     returns
     returns-2
     returns-3)

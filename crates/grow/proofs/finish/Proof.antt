@@ -3,24 +3,25 @@
 use mathlib.Core.List.{[]}
 use Rattle.basics.proofs.Arrays.{leaving}
 use Rattle.whole.proofs.Whole.{all-picked, picked-rising, hanged}
-use Rattle.grow.proofs.Laws.{hangable, kept-best, regrown}
+use Rattle.grow.proofs.Laws.{hangable, kept-best, standing-links, regrown}
 use Rattle.grow.proofs.finish.Statement.{statement}
 use Rattle.grow.proofs.finish.Tie as tie
 
 settle-requires : tie.Need-settle-requires
 settle-requires c κs =
-    let pre = c .before .before .before .before .before .before .before .before .before .pre in
-    (pre .0, pre .1, pre .2, pre .3 .afoot, pre .3 .found-long, pre .5)
+    let pre = c .before .before .before .before .before .before .before .before .before .before .pre in
+    (pre .0, pre .1, pre .2, pre .3 .afoot, pre .3 .found-long, pre .5, pre .6)
 
 keep-tight-requires : tie.Need-keep-tight-requires
 keep-tight-requires c κs =
-    let pre = c .before .before .before .before .before .before .before .before .before .before .before .before .before .pre in
+    let start = c .before .before .before .before .before .before .before .before .before .before .before .before .before .before in
+    let pre = start .pre in
     let settled = c .before .before .before .settle .ensures in
-    (pre .0, settled .0 .lined .long, settled .1 .long, pre .4)
+    (pre .0, settled .0 .lined .long, settled .1 .long, pre .4 .long, pre .2, standing-links (start .args .profile) (pre .0) (pre .1) (settled .0) (pre .3) (settled .1) (pre .4))
 
 renew-firsts-requires : tie.Need-renew-firsts-requires
 renew-firsts-requires c κs =
-    let start = c .before .before .before .before .before .before .before .before .before .before .before .before .before .before .before .before .before in
+    let start = c .before .before .before .before .before .before .before .before .before .before .before .before .before .before .before .before .before .before in
     let p = start .args .profile in
     let pre = start .pre in
     let settled = c .before .before .before .before .before .before .before .settle .ensures in
@@ -29,7 +30,7 @@ renew-firsts-requires c κs =
 
 returns : tie.Need-returns
 returns c =
-    let start = c .before .before .before .before .before .before .before .before .before .before .before .before .before .before .before .before .before .before in
+    let start = c .before .before .before .before .before .before .before .before .before .before .before .before .before .before .before .before .before .before .before in
     let p = start .args .profile in
     let pre = start .pre in
     let settled = c .before .before .before .before .before .before .before .before .settle .ensures in

@@ -10,6 +10,7 @@ use Rattle.rules.specs.Net.{Net}
 use Rattle.rules.specs.Columns.{netIn, mostNodes, noLink}
 use Rattle.usable.specs.Standing.{tableAt}
 use Rattle.basics.proofs.Arrays.{leaving}
+use Rattle.asked.proofs.Laws.{kept-none}
 use Rattle.queue.specs.Queue.{empty, keyOf, Rekeyed}
 use Rattle.whole.proofs.Whole.{all-fresh, picked-rising, hanged}
 use Rattle.afoot.proofs.Rounds.{Alone, alone}
@@ -34,26 +35,26 @@ seed-requires c κs =
 
 settle-requires : tie.Need-settle-requires
 settle-requires c κs =
-    let start = c .before .before .before .before .before .before .before .before .before .before .before .before .before .before .before .before .before .before in
-    let seed = c .before .before .before .before .before .before .seed .ensures in
-    (start .pre .0, start .pre .1, c .before .before .before .before .before .before .before .before .before .before .first-links .ensures, rw (seed .0) (seeded start (seed .1) .afoot), length-replicate 256 noLink, length-replicate 256 noLink)
+    let start = c .before .before .before .before .before .before .before .before .before .before .before .before .before .before .before .before .before .before .before in
+    let seed = c .before .before .before .before .before .before .before .seed .ensures in
+    (start .pre .0, start .pre .1, c .before .before .before .before .before .before .before .before .before .before .before .first-links .ensures, rw (seed .0) (seeded start (seed .1) .afoot), length-replicate 256 noLink, length-replicate 256 noLink, kept-none _)
 
 renew-firsts-requires : tie.Need-renew-firsts-requires
 renew-firsts-requires c κs =
-    let start = c .before .before .before .before .before .before .before .before .before .before .before .before .before .before .before .before .before .before .before .before .before .before in
+    let start = c .before .before .before .before .before .before .before .before .before .before .before .before .before .before .before .before .before .before .before .before .before .before .before in
     let p = start .args .profile in
     let proper = start .pre .0 in
-    let seed = c .before .before .before .before .before .before .before .before .before .before .seed .ensures in
+    let seed = c .before .before .before .before .before .before .before .before .before .before .before .seed .ensures in
     let settled = c .before .before .before .settle .ensures in
     let best = built-best p proper (start .pre .1) (settled .0) (rw (← seed .0) at (seeded start (seed .1))) (settled .1) in
     (picked-rising p (hangable p proper (start .pre .1) (settled .0)) (all-fresh (level-legal p proper (start .pre .1)) best) [], leaving proper, proper .few-nodes, settled .2)
 
 returns : tie.Need-returns
 returns c =
-    let start = c .before .before .before .before .before .before .before .before .before .before .before .before .before .before .before .before .before .before .before .before .before .before .before in
+    let start = c .before .before .before .before .before .before .before .before .before .before .before .before .before .before .before .before .before .before .before .before .before .before .before .before in
     let p = start .args .profile in
     let proper = start .pre .0 in
-    let seed = c .before .before .before .before .before .before .before .before .before .before .before .seed .ensures in
+    let seed = c .before .before .before .before .before .before .before .before .before .before .before .before .seed .ensures in
     let settled = c .before .before .before .before .settle .ensures in
     let best = built-best p proper (start .pre .1) (settled .0) (rw (← seed .0) at (seeded start (seed .1))) (settled .1) in
     grown p proper (start .pre .1) (settled .0) (hanged p (hangable p proper (start .pre .1) (settled .0)) (all-fresh (level-legal p proper (start .pre .1)) best) _ (c .renew-firsts .ensures))

@@ -2,6 +2,8 @@
 use mathlib.Core.Path.{refl}
 use borrow.Author.Needs.{needs}
 use Rattle.basics.proofs.Arrays.{leaving}
+use Rattle.asked.proofs.Laws.{kept-none}
+use Rattle.grow.proofs.Laws.{rooted}
 use Rattle.grow.proofs.mend_level.Statement.{statement}
 use Rattle.grow.proofs.mend_level.Tie as tie
 
@@ -9,13 +11,14 @@ first-links-requires : tie.Need-first-links-requires
 first-links-requires c κs = leaving (c .before .before .before .before .pre .0)
 
 reseed-all-requires : tie.Need-reseed-all-requires
-reseed-all-requires c κs = let pre = c .before .before .before .before .before .before .before .before .before .before .before .before .pre in (pre .0, pre .1, c .before .before .before .before .before .before .before .first-links .ensures, pre .2, refl, refl, refl)
+reseed-all-requires c κs = let pre = c .before .before .before .before .before .before .before .before .before .before .before .before .before .pre in (pre .0, pre .1, c .before .before .before .before .before .before .before .before .first-links .ensures, pre .2, refl, refl, refl, kept-none _)
 
 finish-requires : tie.Need-finish-requires
 finish-requires c κs =
-    let pre = c .before .before .before .before .before .before .before .before .before .before .before .before .before .before .before .before .before .before .before .before .pre in
-    let reseed = c .before .before .before .before .before .before .before .reseed-all .ensures in
-    (pre .0, pre .1, c .before .before .before .before .before .before .before .before .before .before .before .before .before .before .before .first-links .ensures, reseed .0, pre .2 .whole .parent, reseed .1)
+    let start = c .before .before .before .before .before .before .before .before .before .before .before .before .before .before .before .before .before .before .before .before .before .before in
+    let pre = start .pre in
+    let reseed = c .before .before .before .before .before .before .before .before .reseed-all .ensures in
+    (pre .0, pre .1, c .before .before .before .before .before .before .before .before .before .before .before .before .before .before .before .before .before .first-links .ensures, reseed .0, rooted (start .args .profile) (pre .2), reseed .1, reseed .2)
 
 returns : tie.Need-returns
 returns c = search needs

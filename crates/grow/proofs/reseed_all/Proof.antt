@@ -18,14 +18,14 @@ lift-requires c κs =
 
 offer-into-requires : tie.Need-offer-into-requires
 offer-into-requires c κs =
-    let pre = c .before .before .before .before .before .before .before .before .before .before .before .before .before .before .before .pre in
-    (pre .0, c .before .before .before .before .before .before .lift .ensures .begun, length-replicate 256 noLink, rw (pre .6) (length-replicate 256 noLink))
+    let pre = c .before .before .before .before .before .before .before .before .before .before .before .before .before .before .before .before .pre in
+    (pre .0, c .before .before .before .before .before .before .before .lift .ensures .begun, length-replicate 256 noLink, rw (pre .6) (length-replicate 256 noLink), pre .2, pre .7)
 
 returns : tie.Need-returns
 returns c =
-    let start = c .before .before .before .before .before .before .before .before .before .before .before .before .before .before .before .before in
-    let heard = heard-fewer (rw (start .pre .6) at (c .offer-into .ensures)) (λ k u any. inr (refl, filled 256 noLink (getD (start .args .ends .now) k 0))) in
-    (seeded (carried-all (c .before .before .before .before .before .before .before .lift .ensures)) (heard .partly) (heard .goes-on), length-replicate 256 noLink)
+    let start = c .before .before .before .before .before .before .before .before .before .before .before .before .before .before .before .before .before in
+    let heard = heard-fewer (rw (start .pre .6) at (c .offer-into .ensures .0)) (λ k u any. inr (refl, filled 256 noLink (getD (start .args .ends .now) k 0))) in
+    (seeded (carried-all (c .before .before .before .before .before .before .before .before .lift .ensures)) (heard .partly) (heard .goes-on), length-replicate 256 noLink, c .offer-into .ensures .1)
 
 pub reseed-all-spec : {M : Type 1} → statement M
 reseed-all-spec = tie.close (tie.spec lift-requires offer-into-requires returns)

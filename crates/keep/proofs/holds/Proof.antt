@@ -51,7 +51,7 @@ exact-requires : tie.Need-exact-requires
 exact-requires c κs = search needs
 
 usable-requires : tie.Need-usable-requires
-usable-requires c κs = (omega (arith, c .before .before .before .before .before .before .before .before .if1 .left), c .before .before .before .before .before .before .before .before .before .before .before .before .before .pre .0 .costs-long)
+usable-requires c κs = let pre = c .before .before .before .before .before .before .before .before .before .before .before .before .before .pre in (pre .0, pre .3, omega (arith, c .before .before .before .before .before .before .before .before .if1 .left))
 
 returns-3 : tie.Need-returns-3
 returns-3 c =

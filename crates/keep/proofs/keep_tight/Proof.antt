@@ -1,20 +1,20 @@
 -- `keep::keep_tight` meets its contract. The loop's invariant is that the nodes before `v` are done and the others as
 -- they were; the measure is the number of nodes left. Assumes nothing.
-use Prim.Native.Nat.{_-_}
+use Prim.Native.Nat.{_-_, _<_}
 use native.Mathlib.Omega.{arith}
 use lib.ListN.{getD}
 use borrow.Author.Needs.{needs}
 use Rattle.rules.specs.Columns.{netIn, mostNodes}
 use Rattle.usable.specs.Standing.{tableAt}
-use Rattle.keep.proofs.Laws.{Keeping, passing-none, passing-more, all-kept, kept-read}
+use Rattle.keep.proofs.Laws.{Keeping, passing-none, passing-more, all-kept, kept-read, stands-read}
 use Rattle.keep.proofs.keep_tight.Statement.{statement}
 use Rattle.keep.proofs.keep_tight.Tie as tie
 
 abbrev Inv-loop : tie.InvT-loop
-Inv-loop profile nodes root starts ends narrow wide dist found parent₀ v₀ parent v = Keeping (netIn profile (tableAt nodes root starts ends narrow wide)) (λ u. getD dist u (profile .mark)) found v parent₀ parent
+Inv-loop profile nodes root starts ends narrow wide at dist found parent₀ v₀ parent v = Keeping (netIn profile (tableAt nodes root starts ends narrow wide)) (λ u. getD dist u (profile .mark)) found v parent₀ parent
 
 abbrev μ-loop : tie.MeasureT-loop
-μ-loop profile nodes root starts ends narrow wide dist found parent₀ v₀ parent v = mostNodes - v
+μ-loop profile nodes root starts ends narrow wide at dist found parent₀ v₀ parent v = mostNodes - v
 
 loop-holds : tie.Need-loop-holds Inv-loop μ-loop
 loop-holds c = passing-none (c .before .before .before .before .pre .3)
@@ -32,7 +32,11 @@ element-copy-out-kept-2 : tie.Need-element-copy-out-kept-2 Inv-loop μ-loop
 element-copy-out-kept-2 c = search needs
 
 kept-requires : tie.Need-kept-requires Inv-loop μ-loop
-kept-requires c κs = (c .before .before .before .before .before .before .before .before .pre .0, c .before .before .before .before .before .before .before .before .pre .1, search needs)
+kept-requires c κs =
+    let entry = c .before .before .before .before .before .before .before .before in
+    let loop = c .before .before .before .loop in
+    let is-node : loop .v < mostNodes = omega (arith, c .before .before .loop-test .taken) in
+    (entry .pre .0, entry .pre .1, is-node, entry .pre .4, stands-read (entry .args .found .now) (entry .args .parent .now) (loop .parent) (entry .pre .2) (loop .inv .long) is-node (loop .inv .rest (loop .v) (omega arith)) (entry .pre .5))
 
 mul-parent : tie.Need-mul-parent Inv-loop μ-loop
 mul-parent c = search needs

@@ -3,57 +3,40 @@ use Prim.Native.Nat.{_-_, _<_}
 use native.Mathlib.Omega.{arith}
 use borrow.Author.Needs.{needs}
 use Rattle.lift.specs.Loose.{Loose}
-use Rattle.lift.proofs.Notes.{loose-none, loose-root, loose-carried, loose-waits, loose-all}
+use Rattle.lift.proofs.Notes.{loose-none, loose-root, loose-asked, loose-all}
 use Rattle.rules.specs.Columns.{netIn}
 use Rattle.usable.specs.Standing.{tableAt}
 use Rattle.lift.proofs.note_loose.Statement.{statement}
 use Rattle.lift.proofs.note_loose.Tie as tie
 
 abbrev Inv-loop : tie.InvT-loop
-Inv-loop profile nodes root starts ends narrow wide parent dist keys₀ mins₀ v₀ keys mins v = Loose (netIn profile (tableAt nodes root starts ends narrow wide)) parent (λ w. w < v) dist keys mins
+Inv-loop profile nodes root starts ends narrow wide at parent dist keys₀ mins₀ v₀ keys mins v = Loose (netIn profile (tableAt nodes root starts ends narrow wide)) parent (λ w. w < v) dist keys mins
 
 abbrev μ-loop : tie.MeasureT-loop
-μ-loop profile nodes root starts ends narrow wide parent dist keys₀ mins₀ v₀ keys mins v = 256 - v
+μ-loop profile nodes root starts ends narrow wide at parent dist keys₀ mins₀ v₀ keys mins v = 256 - v
 
 loop-holds : tie.Need-loop-holds Inv-loop μ-loop
-loop-holds c = loose-none (c .before .before .before .before .pre .2)
+loop-holds c = loose-none (c .before .before .before .before .pre .3)
 
 add-next : tie.Need-add-next Inv-loop μ-loop
 add-next c = search needs
 
-mul-carries : tie.Need-mul-carries Inv-loop μ-loop
-mul-carries c = search needs
-
-element-copy-out-carries : tie.Need-element-copy-out-carries Inv-loop μ-loop
-element-copy-out-carries c = search needs
-
-carries-requires : tie.Need-carries-requires Inv-loop μ-loop
-carries-requires c κs =
-    let start = c .before .before .before .before .before .before .before .before in
-    (start .pre .0, start .pre .2 .lined .long, omega arith)
-
-note-requires : tie.Need-note-requires Inv-loop μ-loop
-note-requires c κs = (c .before .before .before .before .before .before .before .loop .inv .lined, omega (arith, c .before .before .before .before .before .before .loop-test .taken))
+note-if-loose-requires : tie.Need-note-if-loose-requires Inv-loop μ-loop
+note-if-loose-requires c κs =
+    let pre = c .before .before .before .before .before .before .before .before .before .pre in
+    (pre .0, pre .1, pre .2, c .before .before .before .before .loop .inv .lined, omega (arith, c .before .before .before .loop-test .taken), c .before .before .if1 .taken)
 
 loop-less : tie.Need-loop-less Inv-loop μ-loop
 loop-less c = search needs
 
 loop-again : tie.Need-loop-again Inv-loop μ-loop
-loop-again c = loose-waits (c .before .before .before .before .before .before .before .before .loop .inv) (c .before .before .before .before .before .before .if1 .taken) (c .note .ensures)
+loop-again c = loose-asked (c .before .before .before .before .before .loop .inv) (c .note-if-loose .ensures)
 
 loop-less-2 : tie.Need-loop-less-2 Inv-loop μ-loop
 loop-less-2 c = search needs
 
 loop-again-2 : tie.Need-loop-again-2 Inv-loop μ-loop
-loop-again-2 c =
-    let start = c .before .before .before .before .before .before .before .before .before .before in
-    loose-carried (c .before .before .before .before .before .loop .inv) (start .pre .1 .long) (c .before .before .before .before .loop-test .taken) (c .before .carries .ensures) (c .if2 .left)
-
-loop-less-3 : tie.Need-loop-less-3 Inv-loop μ-loop
-loop-less-3 c = search needs
-
-loop-again-3 : tie.Need-loop-again-3 Inv-loop μ-loop
-loop-again-3 c = loose-root (c .before .before .loop .inv) (c .if1 .left)
+loop-again-2 c = loose-root (c .before .before .loop .inv) (c .if1 .left)
 
 returns : tie.Need-returns Inv-loop μ-loop
 returns c = loose-all (c .before .loop .inv) (c .loop-test .left)
@@ -66,14 +49,9 @@ note-loose-spec =
     μ-loop
     loop-holds
     add-next
-    mul-carries
-    element-copy-out-carries
-    carries-requires
-    note-requires
+    note-if-loose-requires
     loop-less
     loop-again
     loop-less-2
     loop-again-2
-    loop-less-3
-    loop-again-3
     returns)

@@ -42,21 +42,21 @@ cast-sum-2 c = search needs
 add-sum : tie.Need-add-sum
 add-sum c = search needs
 
-offer-requires : tie.Need-offer-requires
-offer-requires c κs = search needs
+heed-requires : tie.Need-heed-requires
+heed-requires c κs = search needs
 
 returns : tie.Need-returns
 returns c =
-    let start = c .before .before .before .before .before .before .before .before .before .before .before .before .before .before in
-    let told = c .offer .ensures in
+    let start = c .before .before .before .before .before .before .before .before .before .before .before .before .before .before .before in
+    let told = c .heed .ensures in
     let near = entry (start .pre .2) (node start) in
-    let cost = c .before .before .before .before .before .at .ensures in
-    (told .0, told .1, heard (rw (near, cost) at (told .2)) (rw (near, cost) at (told .3)) (rw (near, cost) at (told .4)))
+    let cost = c .before .before .before .before .before .before .at .ensures in
+    (told .0, told .1, heard (rw (near, cost) at (told .2)) (rw (near, cost) at (told .3)) (rw (near, cost) at (told .4)), told .5)
 
 returns-2 : tie.Need-returns-2
 returns-2 c =
     let start = c .before .before .before .before .before .before .before .before in
-    (start .pre .2, start .pre .3, unheard (omega (arith, entry (start .pre .2) (node start))) refl refl refl)
+    (start .pre .2, start .pre .3, unheard (omega (arith, entry (start .pre .2) (node start))) refl refl refl, start .pre .5)
 
 pub offer-link-spec : {M : Type 1} → statement M
 offer-link-spec =
@@ -71,6 +71,6 @@ offer-link-spec =
     at-requires
     cast-sum-2
     add-sum
-    offer-requires
+    heed-requires
     returns
     returns-2)

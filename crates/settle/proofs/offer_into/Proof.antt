@@ -9,6 +9,7 @@ use Rattle.rules.specs.Columns.{netIn, mostNodes, noLink}
 use Rattle.rules.proofs.Logic.{getD-any}
 use Rattle.usable.specs.Standing.{tableAt}
 use Rattle.usable.proofs.Reading.{end-has-row}
+use Rattle.asked.specs.Asked.{Kept}
 use Rattle.afoot.specs.Afoot.{Calm}
 use Rattle.afoot.specs.Finding.{Heard}
 use Rattle.afoot.proofs.Offers.{orderly}
@@ -17,12 +18,13 @@ use Rattle.settle.proofs.offer_into.Statement.{statement}
 use Rattle.settle.proofs.offer_into.Tie as tie
 
 abbrev Inv-loop : tie.InvT-loop
-Inv-loop profile nodes root starts ends narrow wide lifted first dist₀ keys₀ mins₀ found₀ k₀ dist keys mins found k =
+Inv-loop profile nodes root starts ends narrow wide at asked₀ lifted first dist₀ keys₀ mins₀ found₀ k₀ asked dist keys mins found k =
     Heard (netIn profile (tableAt nodes root starts ends narrow wide)) (Calm (netIn profile (tableAt nodes root starts ends narrow wide)) dist₀ keys₀) dist₀ keys₀ found₀
     (Into (netIn profile (tableAt nodes root starts ends narrow wide)) dist₀ keys₀ first k) dist keys mins found
+    × Kept (tableAt nodes root starts ends narrow wide) asked
 
 abbrev μ-loop : tie.MeasureT-loop
-μ-loop profile nodes root starts ends narrow wide lifted first dist₀ keys₀ mins₀ found₀ k₀ dist keys mins found k = length starts - k
+μ-loop profile nodes root starts ends narrow wide at asked₀ lifted first dist₀ keys₀ mins₀ found₀ k₀ asked dist keys mins found k = length starts - k
 
 -- the link's end is a node
 node : (c : tie.In-loop Inv-loop μ-loop) → getD (c .before .before .before .before .before .before .before .args .ends .now) (c .before .loop .k) 0 < mostNodes
@@ -31,12 +33,12 @@ node c = end-has-row (c .before .before .before .before .before .before .before 
 returns : tie.Need-returns Inv-loop μ-loop
 returns c =
     let start = c .before .before .before .before .before in
-    heard-fewer (calm-none (start .pre .1) (start .pre .3)) (calm-only _ _ _ (start .args .first .now) (c .if1 .taken))
+    (heard-fewer (calm-none (start .pre .1) (start .pre .3)) (calm-only _ _ _ (start .args .first .now) (c .if1 .taken)), start .pre .5)
 
 loop-holds : tie.Need-loop-holds Inv-loop μ-loop
 loop-holds c =
     let start = c .before .before .before .before .before in
-    heard-fewer (calm-none (start .pre .1) (start .pre .3)) (into-none _ _ _ (start .args .first .now))
+    (heard-fewer (calm-none (start .pre .1) (start .pre .3)) (into-none _ _ _ (start .args .first .now)), start .pre .5)
 
 add-next : tie.Need-add-next Inv-loop μ-loop
 add-next c = search needs
@@ -57,22 +59,22 @@ element-copy-out-if2 : tie.Need-element-copy-out-if2 Inv-loop μ-loop
 element-copy-out-if2 c = omega (arith, node (c .before), c .before .before .before .before .before .before .before .before .pre .2)
 
 cast-offer-link : tie.Need-cast-offer-link Inv-loop μ-loop
-cast-offer-link c = omega (arith, c .before .before .before .before .before .before .before .before .before .before .pre .0 .few-links)
+cast-offer-link c = omega (arith, c .before .before .before .before .before .before .before .before .before .before .before .pre .0 .few-links)
 
 offer-link-requires : tie.Need-offer-link-requires Inv-loop μ-loop
 offer-link-requires c κs =
-    let loop = c .before .before .before .before .before .before .before .before .loop in
-    (c .before .before .before .before .before .before .before .before .before .before .before .before .before .before .pre .0, c .before .before .before .before .before .before .before .loop-test .taken, loop .inv .partly .begun .lined, loop .inv .goes-on .long)
+    let loop = c .before .before .before .before .before .before .before .before .before .loop in
+    (c .before .before .before .before .before .before .before .before .before .before .before .before .before .before .before .pre .0, c .before .before .before .before .before .before .before .before .loop-test .taken, loop .inv .0 .partly .begun .lined, loop .inv .0 .goes-on .long, c .before .before .before .before .before .before .before .before .before .before .before .before .before .before .before .pre .4, loop .inv .1)
 
 loop-less : tie.Need-loop-less Inv-loop μ-loop
 loop-less c = search needs
 
 loop-again : tie.Need-loop-again Inv-loop μ-loop
 loop-again c =
-    let start = c .before .before .before .before .before .before .before .before .before .before .before .before .before .before .before in
-    let loop = c .before .before .before .before .before .before .before .before .before .loop in
+    let start = c .before .before .before .before .before .before .before .before .before .before .before .before .before .before .before .before in
+    let loop = c .before .before .before .before .before .before .before .before .before .before .loop in
     let told = c .offer-link .ensures in
-    heard-more (loop .inv) (into-more _ _ _ (start .args .first .now) (loop .k)) (orderly (start .args .profile) (start .pre .0)) (c .before .before .before .before .before .before .before .before .loop-test .taken) (told .0) (told .2)
+    (heard-more (loop .inv .0) (into-more _ _ _ (start .args .first .now) (loop .k)) (orderly (start .args .profile) (start .pre .0)) (c .before .before .before .before .before .before .before .before .before .loop-test .taken) (told .0) (told .2), told .3)
 
 loop-less-2 : tie.Need-loop-less-2 Inv-loop μ-loop
 loop-less-2 c = search needs
@@ -82,10 +84,10 @@ loop-again-2 c =
     let start = c .before .before .before .before .before .before .before .before .before .before in
     let loop = c .before .before .before .before .loop in
     let some = getD-any (start .args .first .now) (getD (start .args .ends .now) (loop .k) 0) 0 noLink (omega (arith, node (c .before .before .before), start .pre .2)) in
-    heard-fewer (loop .inv) (into-past _ _ _ (start .args .first .now) (loop .k) (λ e. c .if2 .left (some ∙ e)))
+    (heard-fewer (loop .inv .0) (into-past _ _ _ (start .args .first .now) (loop .k) (λ e. c .if2 .left (some ∙ e))), loop .inv .1)
 
 returns-2 : tie.Need-returns-2 Inv-loop μ-loop
-returns-2 c = heard-fewer (c .before .loop .inv) (into-all _ _ _ (c .before .before .before .before .before .before .before .args .first .now) (c .before .loop .k) (c .loop-test .left))
+returns-2 c = (heard-fewer (c .before .loop .inv .0) (into-all _ _ _ (c .before .before .before .before .before .before .before .args .first .now) (c .before .loop .k) (c .loop-test .left)), c .before .loop .inv .1)
 
 pub offer-into-spec : {M : Type 1} → statement M
 offer-into-spec =

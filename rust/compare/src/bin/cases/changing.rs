@@ -179,7 +179,7 @@ fn quiet_batches() {
     from_p1("one unchanged cost", &[3], &[2], 6);
     from_p1("all costs unchanged", &[7, 6, 5, 4, 3, 2, 1, 0], &[1, 1, 2, 7, 2, 4, 7, 4], 6);
     from_p1("into the root cheaper", &[2, 4], &[1, 1], 6);
-    from_p1("into the root down", &[4, 2], &[0, 0], 6);
+    from_p1("into the root dear", &[4, 2], &[65_535, 65_535], 6);
 }
 
 // The root's links go and come back; nodes 2 and 3 hold on to each other when both are cut off.
@@ -199,9 +199,10 @@ fn apart_and_together() {
 // ---- other networks
 
 // Links 0 and 1 both lead from 0 to 1, and links 2 and 3 both from 1 to 2; node 1 comes to hang on the second of two
-// equal links.
+// equal links. A link back leaves each node behind its other links.
 fn parallel() {
-    let mut run = Run::on(net(4, 0, &[0, 0, 1, 1, 2], &[1, 1, 2, 2, 3], &[6, 5, 1, 1, 1])).fresh("parallel");
+    let (starts, ends) = ([0, 0, 1, 1, 1, 2, 2, 3], [1, 1, 2, 2, 0, 3, 1, 2]);
+    let mut run = Run::on(net(4, 0, &starts, &ends, &[6, 5, 1, 1, 1, 1, 1, 1])).fresh("parallel");
     run.step("the first as cheap", &[0], &[5], 6);
     run.say_build("built then");
     run.step("the first raised", &[0], &[9], 6);
@@ -216,34 +217,90 @@ fn parallel() {
 
 // Three ways to node 4, over 1, 2 and 3, all at one cost.
 fn fork() {
-    let mut run = Run::on(net(5, 0, &[0, 0, 0, 1, 2, 3], &[1, 2, 3, 4, 4, 4], &[2; 6])).fresh("fork");
+    let (starts, ends) = ([0, 0, 0, 1, 1, 2, 2, 3, 3, 4, 4, 4], [1, 2, 3, 4, 0, 4, 0, 4, 0, 1, 2, 3]);
+    let mut run = Run::on(net(5, 0, &starts, &ends, &[2; 12])).fresh("fork");
     run.step("link 3 raised", &[3], &[3], 5);
     run.step("link 3 back", &[3], &[2], 5);
-    run.step("link 1 cheaper, link 4 as much dearer", &[1, 4], &[1, 3], 5);
+    run.step("link 1 cheaper, link 5 as much dearer", &[1, 5], &[1, 3], 5);
     run.step("link 2 cheaper", &[2], &[1], 5);
-    run.step("link 0 cheaper too and link 4 again", &[4, 0], &[2, 1], 5);
+    run.step("link 0 cheaper too and link 5 again", &[5, 0], &[2, 1], 5);
 }
 
 // Dear links in a row: their sum is past the width of a cost.
 fn dear() {
-    let mut run = Run::on(net(3, 0, &[0, 0, 1, 2], &[1, 2, 2, 1], &[65_535, 65_535, 65_535, 1])).fresh("dear");
+    let (starts, ends) = ([0, 0, 1, 1, 2, 2], [1, 2, 2, 0, 1, 0]);
+    let mut run = Run::on(net(3, 0, &starts, &ends, &[65_535, 65_535, 65_535, 1, 1, 1])).fresh("dear");
     run.step("link 1 down", &[1], &[0], 3);
     run.step("link 1 for link 0", &[0, 1], &[0, 65_535], 3);
-    run.step("link 3 dear", &[3], &[65_535], 3);
+    run.step("link 4 dear", &[4], &[65_535], 3);
 }
 
 fn root_3() {
     let mut run = Run::on(Network { root: 3, ..pier() }).fresh("root 3");
     run.ask("root 3, path to 0", 0, 3);
     run.ask("root 3, path to 3", 3, 0);
-    run.step("into root 3 down", &[6], &[0], 6);
+    run.step("into root 3 dear", &[6], &[9], 6);
     run.step("link 2 as dear as link 4", &[2], &[5], 6);
     run.step("link 2 dearer", &[2], &[6], 6);
     run.ask("path to 0 by link 4", 0, 3);
+    run.step("into root 3 down", &[6], &[0], 6);
+    run.step("into root 3 up", &[6], &[1], 6);
     run.step("out of root 3 down", &[7], &[0], 6);
     run.ask("root 3, 0 unreached", 0, 6);
     run.net.root = 0;
     run.step("another root than the tree's", &[3], &[5], 4);
+}
+
+// ---- links back
+
+// Link 6 leads to node 3, and link 7 is its link back: each goes and comes, alone and with the other.
+fn link_back() {
+    let mut run = at_p1();
+    run.step("link 7 down", &[7], &[0], 4);
+    run.step("link 7 down already", &[7], &[0], 4);
+    run.step("link 6 dearer without it", &[6], &[3], 4);
+    run.step("link 7 up and dear", &[7], &[65_535], 4);
+    run.step("link 6 down, link 7 left", &[6], &[0], 4);
+    run.step("link 7 down too", &[7], &[0], 4);
+    run.step("link 6 up alone", &[6], &[1], 4);
+    run.step("link 6 down for link 7", &[6, 7], &[0, 1], 4);
+    run.step("link 6 up beside it", &[6], &[1], 4);
+    run.step("both down", &[7, 6], &[0, 0], 4);
+    run.step("both up", &[6, 7], &[1, 1], 4);
+}
+
+// Links that no route takes, and that the routes need all the same.
+fn off_the_tree() {
+    from_p1("into the root down", &[4, 2], &[0, 0], 6);
+    from_p1("link 2 down", &[2], &[0], 6);
+    from_p1("link 5 down", &[5], &[0], 6);
+    from_p1("link 5 down, link 1 cheaper", &[5, 1], &[0, 3], 6);
+    from_p1("link 5 down, link 3 cheaper", &[5, 3], &[0, 1], 6);
+    let mut run = at_p1();
+    run.step("link 0 down", &[0], &[0], 6);
+    run.step("link 3 down, which link 5 needs", &[3], &[0], 6);
+    run.step("link 0 up", &[0], &[4], 6);
+    run.step("link 3 up and dear", &[3], &[9], 6);
+    run.step("link 2 down, so link 5 again", &[2], &[0], 6);
+}
+
+// Links 0 and 1 lead from 0 to 1, and links 2, 3 and 4 back: any of these will do.
+fn links_back() {
+    let mut run = Run::on(net(2, 0, &[0, 0, 1, 1, 1], &[1, 1, 0, 0, 0], &[4, 6, 9, 0, 1])).fresh("links back");
+    run.step("the dear one down", &[2], &[0], 2);
+    run.step("another for the last", &[3, 4], &[8, 0], 2);
+    run.step("none left", &[3], &[0], 2);
+    run.step("the links cheaper", &[0, 1], &[1, 1], 2);
+    run.step("all of them up", &[4, 2, 3], &[1, 1, 1], 2);
+    run.step("link 0 down, link 4 down", &[0, 4], &[0, 0], 2);
+    run.step("none left, link 0 up", &[0, 2, 3], &[1, 0, 0], 2);
+    run.step("one of them, link 0 down", &[0, 3], &[0, 65_535], 2);
+}
+
+fn round_trip() {
+    let mut run = Run::on(net(3, 0, &[0, 1, 2], &[1, 2, 0], &[1; 3])).fresh("a ring of one-way links");
+    run.step("each link cheaper or dearer", &[0, 1, 2], &[2, 3, 4], 3);
+    run.ask("no path round it", 2, 6);
 }
 
 // ---- refused
@@ -341,9 +398,9 @@ fn unreached() {
 
 // ---- long batches, tables and paths
 
-// So many links that all lead from 0 to 1.
+// So many links from 0 to 1, and one back.
 fn beside(links: usize) -> Network {
-    net(2, 0, &vec![0; links], &vec![1; links], &vec![7; links])
+    Network::with_links(2, 0, std::iter::repeat((0, 1, 7)).take(links).chain([(1, 0, 7)]))
 }
 
 // A row for each of the first links, but row 255 names the link `other`.
@@ -352,19 +409,20 @@ fn rows(count: u16, other: u16) -> Vec<u16> {
 }
 
 fn many_rows() {
-    let mut run = Run::long(beside(300), 1).fresh("300 links");
+    let mut run = Run::long(beside(300), 1).fresh("300 links and one back");
     let unfit = with_rows(run.tree.clone(), &[(1, 8, 0, 0)]);
     run.step("257 rows", &rows(257, 255), &[9; 257], 2);
     run.with(&unfit).step("6 before 7", &rows(257, 255), &[9; 257], 2);
     run.step("7 before 9 and 12", &rows(257, 0), &[9; 257], 1);
     run.step("256 rows", &rows(256, 255), &[9; 256], 2);
-    run.step("8 in row 255", &rows(256, 300), &[9; 256], 2);
+    run.step("8 in row 255", &rows(256, 301), &[9; 256], 2);
     run.step("9 in row 255", &rows(256, 0), &[9; 256], 2);
     run.step("link 299 named", &rows(256, 299), &[5; 256], 2);
+    run.step("the one back down", &[300], &[0], 2);
 }
 
 fn too_many_links() {
-    let run = Run::long(beside(4097), 1).fresh("4097 links");
+    let run = Run::long(beside(4096), 1).fresh("4097 links");
     let mut run = run.with(&with_rows(Tree::empty(), &[(0, 0, NO_LINK, NO_LINK), (1, 7, 0, 0)]));
     run.step("4097 links", &[0], &[8], 2);
     run.ask("4097 links", 1, 6);
@@ -377,6 +435,8 @@ fn along_chain() {
     run.step("link 0 to 1", &[0], &[1], 256);
     run.step("link 0 dear", &[0], &[65_535], 256);
     run.step("link 0 down", &[0], &[0], 256);
+    run.step("link 0 up", &[0], &[65_535], 256);
+    run.step("the chain's middle without a link back", &[255], &[0], 256);
 }
 
 pub fn run() {
@@ -388,6 +448,10 @@ pub fn run() {
     fork();
     dear();
     root_3();
+    link_back();
+    off_the_tree();
+    links_back();
+    round_trip();
     wrong_rows();
     wrong_sizes();
     wrong_links();

@@ -65,16 +65,49 @@ fn forged() {
 // Node 1 is bare and entered from node 2 alone. Whatever the forged distance of node 2, node 2 counts as reached, so
 // node 1 breaks a rule, and it is the smaller.
 fn entered(name: &str, distance: u32) {
-    let table = Network::with_links(3, 0, [(0, 2, 7), (2, 1, 2)]);
+    let table = Network::with_pairs(3, 0, [(0, 2, 7, 7), (2, 1, 2, 2)]);
     let tree = with_rows(Tree::empty(), &[(0, 0, NO_LINK, NO_LINK), (2, distance, 0, 0)]);
     say(name, lent::judge_tree(&table, &tree));
 }
 
 // Two links from 0 to 1 at one cost, then one at another; the tree may hang on either of the first two.
 fn parallel(name: &str, distance: u32, by: u16) {
-    let table = Network::with_links(2, 0, [(0, 1, 5), (0, 1, 5), (0, 1, 6)]);
+    let table = Network::with_links(2, 0, [(0, 1, 5), (0, 1, 5), (0, 1, 6), (1, 0, 9)]);
     let tree = with_rows(Tree::empty(), &[(0, 0, NO_LINK, NO_LINK), (1, distance, by, by)]);
     say(name, lent::judge_tree(&table, &tree));
+}
+
+// Link 6 leads to node 3, and link 7 is its link back.
+fn one_way() {
+    let lost = p1_with(&[(3, UNREACHED, NO_LINK, NO_LINK)]);
+    let costing = |link: usize, cost: u16| {
+        let mut table = pier();
+        table.costs[link] = cost;
+        table
+    };
+    say("node 3 without its link back", lent::judge_tree(&costing(7, 0), &p1_with(&[])));
+    say("node 3 unreached for that", lent::judge_tree(&costing(7, 0), &lost));
+    say("node 3's link back dear", lent::judge_tree(&costing(7, 65_535), &p1_with(&[])));
+    say("node 3 by a link that is down", lent::judge_tree(&costing(6, 0), &p1_with(&[])));
+    say("node 3 unreached, its own link up", lent::judge_tree(&costing(6, 0), &lost));
+}
+
+// Links 0 and 1 lead from 0 to 1, links 2 and 3 back: any of these will do.
+fn links_back(name: &str, costs: &[u16]) {
+    let table = net(2, 0, &[0, 0, 1, 1], &[1, 1, 0, 0], costs);
+    for (reached, row) in [("reached", (1, 5, 0, 0)), ("unreached", (1, UNREACHED, NO_LINK, NO_LINK))] {
+        let tree = with_rows(Tree::empty(), &[(0, 0, NO_LINK, NO_LINK), row]);
+        say(&format!("{name}, {reached}"), lent::judge_tree(&table, &tree));
+    }
+}
+
+// A ring of one-way links has no link back: what comes round over others is none.
+fn round_trip() {
+    let ring = net(3, 0, &[0, 1, 2], &[1, 2, 0], &[1, 1, 1]);
+    let alone = with_rows(Tree::empty(), &[(0, 0, NO_LINK, NO_LINK)]);
+    let followed = with_rows(alone.clone(), &[(1, 1, 0, 0), (2, 2, 1, 0)]);
+    say("a ring of one-way links, followed", lent::judge_tree(&ring, &followed));
+    say("a ring of one-way links, left alone", lent::judge_tree(&ring, &alone));
 }
 
 fn sizes() {
@@ -118,9 +151,9 @@ fn several() {
 fn chain_to(last: u32) {
     let mut tree = with_rows(Tree::empty(), &[(0, 0, NO_LINK, NO_LINK)]);
     for node in 1..256 {
-        tree = with_rows(tree, &[(node, node as u32 * 65_535, node as u16 - 1, 0)]);
+        tree = with_rows(tree, &[(node, node as u32 * 65_535, 2 * node as u16 - 2, 0)]);
     }
-    say(&format!("chain to {last}"), lent::judge_tree(&chain(), &with_rows(tree, &[(255, last, 254, 0)])));
+    say(&format!("chain to {last}"), lent::judge_tree(&chain(), &with_rows(tree, &[(255, last, 508, 0)])));
 }
 
 pub fn run() {
@@ -134,6 +167,12 @@ pub fn run() {
     parallel("by the first of two", 5, 0);
     parallel("by the second of two", 5, 1);
     parallel("by the dearer third", 6, 2);
+    one_way();
+    links_back("both links back up", &[5, 6, 5, 6]);
+    links_back("the first link back down", &[5, 6, 0, 6]);
+    links_back("the second link back down", &[5, 6, 5, 0]);
+    links_back("both links back down", &[5, 6, 0, 0]);
+    round_trip();
     sizes();
     wrong_links();
     several();

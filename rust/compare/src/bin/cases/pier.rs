@@ -29,7 +29,7 @@ pub fn p1_with(rows: &[Row]) -> Tree {
     with_rows(with_rows(Tree::empty(), &p1), rows)
 }
 
-// 256 nodes in a row, at the dearest cost.
+// 256 nodes in a row, with links both ways at the dearest cost: the link to a node from the one before it is 2 * node - 2.
 pub fn chain() -> Network {
-    Network::with_links(256, 0, (0..255).map(|start| (start, start + 1, 65_535)))
+    Network::with_pairs(256, 0, (0..255).map(|node| (node, node + 1, 65_535, 65_535)))
 }

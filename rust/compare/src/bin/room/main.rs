@@ -4,14 +4,14 @@
 //
 //     make room
 //
-// The networks are the ones that go deepest: the chain of 256 nodes, and a dense network of 4,096 links with a batch of
-// 256 rows. What the C functions take for a tree by value is counted in.
+// The networks are the ones that go deepest: the chain of 256 nodes, and a dense network of 4,096 links, both with links
+// both ways and a batch of 256 rows. What the C functions take for a tree by value is counted in.
 mod frames;
 mod paint;
 
 use frames::Frames;
 use routes::ffi::{Batch, Reply};
-use routes::{lent, Network, Tree, NODES};
+use routes::{lent, Network, Tree, NODES, ROWS};
 use std::path::Path;
 
 // The jobs in the order in which they run: each finds the tree of the one before it.
@@ -31,22 +31,22 @@ struct Given {
     list: [u16; NODES],
 }
 
-fn given(rows: usize, links: impl Iterator<Item = (u16, u16, u16)>) -> Given {
-    let net = Network::with_links(NODES, 0, links);
-    let apart = net.starts.len() / rows;
-    let links = (0..rows).map(|row| (row * apart) as u16).collect();
-    let costs = (0..rows).map(|row| (row % 3 * 20_000 + 1) as u16).collect();
+fn given(pairs: impl Iterator<Item = (u16, u16, u16, u16)>) -> Given {
+    let net = Network::with_pairs(NODES, 0, pairs);
+    let apart = net.starts.len() / ROWS;
+    let links = (0..ROWS).map(|row| (row * apart) as u16).collect();
+    let costs = (0..ROWS).map(|row| (row % 3 * 20_000 + 1) as u16).collect();
     Given { net, tree: Tree::empty(), links, costs, list: [0; NODES] }
 }
 
-// 255 links are all that it has, so its batch has one row fewer.
 fn chain() -> Given {
-    given(255, (0..255).map(|start| (start, start + 1, 65_535)))
+    given((0..255).map(|node| (node, node + 1, 65_535, 65_535)))
 }
 
 fn dense() -> Given {
-    let link = |k: u32| ((k / 16) as u16, ((k / 16 + 1 + k * 37 % 255) % 256) as u16, (1 + k * 7919 % 1000) as u16);
-    given(256, (0..4096).map(link))
+    let cost = |k: u32| (1 + k * 7919 % 1000) as u16;
+    let end = |k: u32| ((k / 8 + 1 + k * 37 % 255) % 256) as u16;
+    given((0..2048).map(|k| ((k / 8) as u16, end(k), cost(k), cost(k + 2048))))
 }
 
 fn call(function: &str, given: &mut Given) -> Reply {
