@@ -10,6 +10,7 @@ use lib.Seq.{getD-set-same, getD-set-other}
 use Rattle.rules.specs.Net.{Net, Usable, at-root}
 use Rattle.rules.specs.Columns.{mostNodes}
 use Rattle.level.specs.Level.{Level}
+use Rattle.basics.proofs.Arrays.{rise}
 use Rattle.queue.specs.Queue.{empty, keyOf, Least, LeastKey, Rekeyed}
 use Rattle.queue.proofs.Laws.{least-key, queue-none}
 use Rattle.rules.proofs.Logic.{getD-any}
@@ -27,15 +28,7 @@ use Rattle.afoot.proofs.Weight.{weight-fell, weight-taken}
 -- ---- the links that leave a node
 
 pub starts-rise : {N : Net} → Orderly N → (i j : ℕ) → i ≤ j → j < N .links → N .start i ≤ N .start j
-starts-rise {N} p i zero a b = let first : i ≡ zero = omega arith in rw first (omega arith)
-starts-rise {N} p i (suc j) a b = at (ℕ-discrete i (suc j)) (λ l. starts-rise p i j l (omega arith))
-  where
-    at : Dec (i ≡ suc j) → (i ≤ j → N .start i ≤ N .start j) → N .start i ≤ N .start (suc j)
-    at (yes e) before = rw e (omega arith)
-    at (no d) before =
-        let back : suc j - 1 ≡ j = omega arith in
-        let step : N .start j ≤ N .start (suc j) = rw back at (p .order (suc j) b) in
-        omega (arith, before (omega arith))
+starts-rise {N} p = rise (N .start) (N .links) (p .order)
 
 -- the links that leave u begin before k, and none from k on leaves it
 pub part-past : {N : Net} → Orderly N → {u head k : ℕ} → Head (N .links) (N .start) u head → head ≤ k → (k < N .links → N .start k ≢ u)

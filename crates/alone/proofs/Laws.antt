@@ -17,7 +17,8 @@ use Rattle.rules.specs.Keep.{one}
 use Rattle.rules.specs.Columns.{Table, Proper, netIn, someLeads, mostNodes, noLink}
 use Rattle.rules.specs.declared.Profile.{Profile}
 use Rattle.usable.proofs.Reading.{start-has-row, read-row}
-use Rattle.alone.specs.Alone.{emptyAt, tightBy, firstOf, usableBy, hungBy, hungAlone, rowAlone, RightBefore}
+use Rattle.backed.specs.Backed.{usableBy}
+use Rattle.alone.specs.Alone.{emptyAt, tightBy, firstOf, hungBy, hungAlone, rowAlone, RightBefore}
 
 -- what is read of a link, of its start and of a node decides
 module _ (p : Profile) {t : Table} (proper : Proper t) (ds : List ℕ) (long : length ds ≡ mostNodes) {k : ℕ} (is-link : k < length (t .starts)) where

@@ -20,10 +20,6 @@ tightBy mark v dist end cost from = eqb end v && not (eqb from mark) && eqb (fro
 abbrev pub firstOf : ℕ → ℕ → ℕ → ℕ → ℕ
 firstOf root parent start first = cond (eqb start root) parent first
 
--- a link of this cost is usable, where a mark tells whether it has a link back
-abbrev pub usableBy : ℕ → ℕ → Bool
-usableBy mark cost = not (eqb mark 0) && ltb 0 cost
-
 -- link k is tight for v, makes v's first link what it is, and is usable
 module _ (N : Net) (dist first : ℕ → ℕ) where
   unfoldable pub hungBy : ℕ → ℕ → Bool

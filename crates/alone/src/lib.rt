@@ -6,9 +6,8 @@ ghost use Rattle.rules.specs.Keep.{one};
 ghost use Rattle.rules.specs.Columns.{Proper, arrays, Whole, mostNodes, noLink, someLeads};
 ghost use Rattle.rules.specs.Lent.{lent};
 ghost use Rattle.usable.specs.Standing.{givenTable, lentNet, lentDist, lentFirst, lentRows};
-ghost use Rattle.costs.specs.Costs.{costsOf};
 ghost use Rattle.backed.specs.Backed.{LedBack};
-ghost use Rattle.alone.specs.Alone.{emptyAt, tightBy, firstOf, usableBy, hungBy, hungAlone, rowAlone, FirstWrong};
+ghost use Rattle.alone.specs.Alone.{emptyAt, tightBy, firstOf, hungBy, hungAlone, rowAlone, FirstWrong};
 use rules::Profile;
 
 const NODES: usize = 256;
@@ -46,17 +45,6 @@ fn first_by(root: usize, parent: u16, start: usize, first: u16) -> u16
     if start == root { parent } else { first }
 }
 
-// A link is usable, where its mark tells whether it has a link back: 0 where it has none.
-fn usable_by(narrow: &[u16], wide: &[u32], k: usize, mark: u8) -> bool
-    requires { ⌜ k < length (costsOf (now narrow) (now wide)) ⌝ }
-    ensures { λ r. ⌜ r ≡ usableBy mark (getD (costsOf (lent narrow) (lent wide)) k 0) ⌝ }
-{
-    if mark == 0 {
-        return false;
-    }
-    usable::up(narrow, wide, k)
-}
-
 // Link `by` hangs node `v`, and makes its first link what it is. Whether it is usable is asked last.
 fn hung_by(
     profile: Profile,
@@ -80,7 +68,7 @@ fn hung_by(
     let cost = costs::at(narrow, wide, k);
     if tight_by(profile.mark, v, dist[v], ends[k], cost, dist[from]) {
         if first[v] == first_by(root, by, from, first[from]) {
-            return usable_by(narrow, wide, k, mark);
+            return backed::usable_by(narrow, wide, k, mark);
         }
     }
     false

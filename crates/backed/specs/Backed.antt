@@ -1,9 +1,9 @@
 -- Which nodes' parent links have a link back. Assumes nothing.
 use mathlib.Core.Path.{_≡_}
-use mathlib.Core.Bool.{cond}
+use mathlib.Core.Bool.{Bool, _&&_, not, cond}
 use mathlib.Core.List.{List}
 use Prim.Native.Nat.{ℕ, _<_}
-use lib.Dec.{ltb}
+use lib.Dec.{eqb, ltb}
 use lib.ListN.{length, getD}
 use Rattle.rules.specs.Keep.{one}
 use Rattle.rules.specs.Columns.{Table, mostNodes, someLeads}
@@ -23,3 +23,7 @@ pub record Above (starts parent : List ℕ) (n : ℕ) (up : List ℕ) : Type 0 w
 -- a node's mark is 1 where some link leads from it to the node above it, and 0 where none does
 pub record LedBack (t : Table) (parent marks : List ℕ) : Type 0 where
   pub each : (v : ℕ) → v < mostNodes → getD marks v 0 ≡ one (someLeads t v (above (t .starts) (getD parent v 0)))
+
+-- a link of this cost is usable, where a mark tells whether it has a link back
+abbrev pub usableBy : ℕ → ℕ → Bool
+usableBy mark cost = not (eqb mark 0) && ltb 0 cost

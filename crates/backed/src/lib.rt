@@ -1,12 +1,14 @@
 // Which nodes' parent links have a link back, told of all nodes at once by one pass over the links.
 ghost use mathlib.Core.Path.{_≡_};
 ghost use mathlib.Core.Bool.{_&&_, cond};
+ghost use Prim.Native.Nat.{_<_};
 ghost use lib.Dec.{eqb};
-ghost use lib.ListN.{length};
+ghost use lib.ListN.{length, getD};
 ghost use Rattle.rules.specs.Columns.{Proper, mostNodes};
 ghost use Rattle.rules.specs.Lent.{lent};
+ghost use Rattle.costs.specs.Costs.{costsOf};
 ghost use Rattle.usable.specs.Standing.{givenTable, lentTableAt};
-ghost use Rattle.backed.specs.Backed.{above, Above, LedBack};
+ghost use Rattle.backed.specs.Backed.{above, Above, LedBack, usableBy};
 
 const NODES: usize = 256;
 
@@ -72,4 +74,15 @@ pub fn led_back(
         k = next;
     }
     marks
+}
+
+// A link is usable, where its mark tells whether it has a link back: 0 where it has none.
+pub fn usable_by(narrow: &[u16], wide: &[u32], k: usize, mark: u8) -> bool
+    requires { ⌜ k < length (costsOf (now narrow) (now wide)) ⌝ }
+    ensures { λ r. ⌜ r ≡ usableBy mark (getD (costsOf (lent narrow) (lent wide)) k 0) ⌝ }
+{
+    if mark == 0 {
+        return false;
+    }
+    usable::up(narrow, wide, k)
 }

@@ -2,7 +2,7 @@
 use mathlib.Core.Path.{_≡_}
 use mathlib.Core.Logic.{_≢_}
 use mathlib.Core.List.{List}
-use Prim.Native.Nat.{ℕ, _<_}
+use Prim.Native.Nat.{ℕ, zero, suc, _-_, _≤_, _<_}
 use native.Mathlib.Omega.{arith}
 use native.Mathlib.Decide.{ℕ-discrete, decLt}
 use lib.ListN.{length, getD, set, replicate, length-replicate, getD-replicate, List·getD-eq-default}
@@ -30,3 +30,15 @@ set-each P xs none v x l here rest u = at (ℕ-discrete u v)
 -- an accepted table's starts
 pub leaving : {t : Table} → Proper t → Leaving (t .starts)
 leaving p = record { few = p .few-links; nodes = λ k l. omega (arith, p .starts k l, p .few-nodes) }
+
+-- numbers of which none is below the one before it
+pub rise : (start : ℕ → ℕ) (links : ℕ) → ((k : ℕ) → k < links → start (k - 1) ≤ start k) → (i j : ℕ) → i ≤ j → j < links → start i ≤ start j
+rise start links order i zero a b = let first : i ≡ zero = omega arith in rw first (omega arith)
+rise start links order i (suc j) a b = at (ℕ-discrete i (suc j)) (λ l. rise start links order i j l (omega arith))
+  where
+    at : Dec (i ≡ suc j) → (i ≤ j → start i ≤ start j) → start i ≤ start (suc j)
+    at (yes e) before = rw e (omega arith)
+    at (no d) before =
+        let back : suc j - 1 ≡ j = omega arith in
+        let step : start j ≤ start (suc j) = rw back at (order (suc j) b) in
+        omega (arith, before (omega arith))

@@ -12,7 +12,7 @@ use borrow.Author.Tests.{eq-eqb, ne-eqb}
 use Rattle.rules.specs.Net.{Net, Legal, Usable}
 use Rattle.rules.specs.Fit.{Tight, Row, root, hung, bare}
 use Rattle.rules.specs.Keep.{Smallest}
-use Rattle.rules.specs.Columns.{Table, Arrays, Proper, Whole, arrays, netIn, rowsIn, mostNodes, noLink}
+use Rattle.rules.specs.Columns.{Table, Arrays, Proper, Whole, arrays, netIn, rowsIn, mostNodes, noLink, withCosts}
 use Rattle.rules.specs.declared.Profile.{Profile}
 use Rattle.rules.proofs.Logic.{true-false}
 use Rattle.basics.proofs.Arrays.{filled, leaving}
@@ -34,7 +34,7 @@ use Rattle.afoot.proofs.Rounds.{lined-none, Alone, settled}
 use Rattle.lift.specs.Loose as loose
 use Rattle.lift.specs.Loose.{parentAt, Rooted, Parents, Stands, StandApart, Liftable, Lifted, Fate, stays, goes, Fates, LiftedRows, none, some}
 use Rattle.grow.proofs.Open.{Alike, alike}
-use Rattle.grow.specs.Grown.{Grown, Old, withCosts, Fitted, Regrown, AllCarried, Apart, Begun, Reseeded, still, moves}
+use Rattle.grow.specs.Grown.{Grown, Old, Fitted, Regrown, AllCarried, Apart, Begun, Reseeded, still, moves}
 
 -- ---- an accepted table's network, and the numbers
 

@@ -9,11 +9,10 @@ use native.Mathlib.Decide.{ℕ-discrete}
 use lib.ListN.{length, getD}
 use Rattle.rules.specs.Net.{Net}
 use Rattle.rules.specs.Tests.{some}
-use Rattle.rules.specs.Columns.{Table, netIn, leads, someLeads}
+use Rattle.rules.specs.Columns.{Table, netIn, leads, someLeads, withCosts}
 use Rattle.rules.specs.declared.Profile.{Profile}
 use Rattle.usable.proofs.Leads.{leaves-not, ends-not}
 use Rattle.afoot.specs.Afoot.{Back, Untouched}
-use Rattle.grow.specs.Grown.{withCosts}
 
 -- link k is in one network what it is in another
 pub record Alike (M N : Net) (k : ℕ) : Type 0 where

@@ -8,7 +8,7 @@ use lib.ListN.{length, getD}
 use Rattle.rules.specs.Net.{Net, Usable}
 use Rattle.rules.specs.Fit.{Fits}
 use Rattle.rules.specs.Keep.{Fresh, Next}
-use Rattle.rules.specs.Columns.{Table, Arrays, Whole, table, netIn, rowsIn, mostNodes, noLink}
+use Rattle.rules.specs.Columns.{Table, Arrays, Whole, netIn, rowsIn, mostNodes, noLink, withCosts}
 use Rattle.rules.specs.declared.Profile.{Profile}
 use Rattle.offer.specs.Offer.{distAt}
 use Rattle.afoot.specs.Afoot.{Every, Untouched, Naming, Afoot, Settled}
@@ -25,10 +25,6 @@ pub record Old (p : Profile) (t : Table) (tree : Arrays) : Type 0 where
   pub most : (v : ℕ) → rowsIn p tree .dist v ≤ p .mark
   pub root-zero : rowsIn p tree .dist (t .root) ≡ 0
   pub root-parent : rowsIn p tree .parent (t .root) ≡ noLink
-
--- the table with other costs
-abbrev pub withCosts : Table → List ℕ → Table
-withCosts t costs = table (t .nodes) (t .root) (t .starts) (t .ends) costs
 
 -- the rows name links of the table, and the tree fitted while those had other costs
 pub record Fitted (p : Profile) (t : Table) (rows : List ℕ) (tree : Arrays) : Type 0 where

@@ -126,12 +126,10 @@ unfoldable pub applied : List Change → List ℕ → List ℕ
 applied [] costs = costs
 applied (row ∷ rows) costs = applied rows (set costs (row .link) (row .cost))
 
--- the table with those costs
+-- the table with other costs
+abbrev pub withCosts : Table → List ℕ → Table
+withCosts t costs = table (t .nodes) (t .root) (t .starts) (t .ends) costs
+
+-- the table with a batch's
 abbrev pub after : Table → List Change → Table
-after t batch = record {
-  nodes = t .nodes;
-  root = t .root;
-  starts = t .starts;
-  ends = t .ends;
-  costs = applied batch (t .costs);
-}
+after t batch = withCosts t (applied batch (t .costs))

@@ -12,7 +12,7 @@ use lib.ListN.{length, length-append, List·getD-append}
 use lib.Seq.{getD-append-add}
 use borrow.Author.Tests.{lt-ltb, le-ltb, ltb-false, leb-false, lt-leb, eq-eqb, ne-eqb}
 use Rattle.rules.specs.Tests.{firstBelow}
-use Rattle.rules.specs.Columns.{Table, Arrays, after, noLink, mostRows}
+use Rattle.rules.specs.Columns.{Table, Arrays, after, noLink, mostRows, withCosts}
 use Rattle.rules.specs.Refusals.{only, Verdict, accepted, refused, _then_, when, linkAt, namesNoLink, namesAgain, firstBadRow, judgeLinks, judgeTree, judgeRows, judgeBatch, judgeUpdate}
 use Rattle.rules.specs.Jobs.{Updated, updated, not-updated}
 use Rattle.rules.specs.declared.Change.{Change}
@@ -21,7 +21,7 @@ use Rattle.rules.proofs.Judged.{then-first, then-second, when-not, not-refused}
 use Rattle.rules.proofs.Accepted.{Accept, update-accept, update-good}
 use Rattle.demands.proofs.Judged.{fits-accepted, after-accepted, tree-table}
 use Rattle.pier.proofs.Pier.{long-enough}
-use Rattle.swapped.specs.Swapped.{withCosts, Acceptable, NoCommonLink}
+use Rattle.swapped.specs.Swapped.{Acceptable, NoCommonLink}
 
 -- ---- after another batch
 

@@ -7,7 +7,7 @@ use mathlib.Core.List.{List, [], _∷_}
 use Prim.Native.Nat.{ℕ, zero, suc, _≤_, _<_}
 use native.Mathlib.Omega.{arith}
 use lib.ListN.{length, replicate}
-use Rattle.rules.specs.Columns.{Table, Arrays, Whole, rowsOf, after, applied}
+use Rattle.rules.specs.Columns.{Table, Arrays, Whole, rowsOf, after, applied, withCosts}
 use Rattle.rules.specs.Refusals.{accepted, judgeBatch, judgeUpdate, linkAt}
 use Rattle.rules.specs.Jobs.{Updated}
 use Rattle.rules.specs.declared.Change.{Change}
@@ -16,7 +16,7 @@ use Rattle.rules.proofs.Judged.{then-first}
 use Rattle.rules.proofs.Accepted.{built-good, update-accept}
 use Rattle.pier.specs.Pier.{LinesHold, pierLines, pier, rows, padded, tree1, tree2, tree4}
 use Rattle.pier.proofs.Pier.{each, each-holds, pier-holds}
-use Rattle.swapped.specs.Swapped.{withCosts, Arrive, Acceptable, NoCommonLink, AlwaysSame}
+use Rattle.swapped.specs.Swapped.{Arrive, Acceptable, NoCommonLink, AlwaysSame}
 use Rattle.swapped.specs.Pier.{dearer, cheaper, dearerFirst, cheaperFirst, swappedLines}
 
 update-batch : {t : Table} {old new : Arrays} {batch : List Change} {list costs listed : List ℕ} {count : ℕ} → Updated t old batch list accepted new costs listed count → Acceptable t old batch

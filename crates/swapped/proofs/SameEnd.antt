@@ -5,7 +5,7 @@ use mathlib.Core.List.{List, [], _∷_, _++_}
 use Prim.Native.Nat.{ℕ, _+_, _≤_}
 use lib.ListN.{length, getD}
 use lib.Seq.{ext-getD}
-use Rattle.rules.specs.Columns.{Table, Arrays, Whole, netOf, rowsOf, applied, mostRows, unreached}
+use Rattle.rules.specs.Columns.{Table, Arrays, Whole, netOf, rowsOf, applied, mostRows, unreached, withCosts}
 use Rattle.rules.specs.Refusals.{Verdict, accepted, judgeTree}
 use Rattle.rules.specs.Jobs.{Updated}
 use Rattle.rules.specs.Demands.{Stands}
@@ -14,7 +14,7 @@ use Rattle.rules.proofs.Unique.{same-dist, same-tight, Kinds, roots, hungs, bar
 use Rattle.rules.proofs.Judged.{legal, tree-accepted}
 use Rattle.rules.proofs.Accepted.{Good, update-good}
 use Rattle.demands.proofs.Demands.{stands-good, stands-accepted}
-use Rattle.swapped.specs.Swapped.{withCosts, Arrive, Acceptable, NoCommonLink, Each, NoneCommon, Reordered, TwoTight, SameEnd, AlwaysSame}
+use Rattle.swapped.specs.Swapped.{Arrive, Acceptable, NoCommonLink, Each, NoneCommon, Reordered, TwoTight, SameEnd, AlwaysSame}
 use Rattle.swapped.proofs.Costs.{as-one, allApplied, each-reordered, any-way}
 use Rattle.swapped.proofs.Acceptable.{batch-tree, taken, still-acceptable, acceptable-as-one}
 

@@ -7,16 +7,12 @@ use Prim.Native.Nat.{ℕ, _≤_, _<_}
 use lib.ListN.{length}
 use Rattle.rules.specs.Net.{Net}
 use Rattle.rules.specs.Fit.{Rows, Reached, Tight}
-use Rattle.rules.specs.Columns.{Table, table, Arrays, Whole, netOf, rowsOf}
+use Rattle.rules.specs.Columns.{Table, Arrays, Whole, netOf, rowsOf, withCosts}
 use Rattle.rules.specs.Refusals.{Verdict, accepted, judgeBatch, linkAt}
 use Rattle.rules.specs.Jobs.{Updated}
 use Rattle.rules.specs.declared.Change.{Change}
 
 -- ---- what arrives
-
--- the table with the costs that an update has left
-abbrev pub withCosts : Table → List ℕ → Table
-withCosts t costs = table (t .nodes) (t .root) (t .starts) (t .ends) costs
 
 -- Arrive t old batches s tree: from the table t and the tree old each batch is given to an update, which finds costs
 -- and tree as the one before it has left them, whatever it was answered, and is lent a list with a place for each node;

@@ -11,6 +11,7 @@ use borrow.Author.Count.{below-more}
 use borrow.Author.Tests.{eq-eqb, ne-eqb}
 use Rattle.rules.specs.Tests.{some}
 use Rattle.rules.specs.Columns.{Table, Proper, leads, someLeads}
+use Rattle.basics.proofs.Arrays.{rise}
 use Rattle.heads.specs.Heads.{HeadIn}
 
 -- ---- some number below n
@@ -28,19 +29,6 @@ some-one p (suc n) j l e = at (ℕ-discrete j n) (λ b. some-one p n j b e)
     at : Dec (j ≡ n) → (j < n → some p n ≡ true) → (p n || some p n) ≡ true
     at (yes same) before = rw (← same, e)
     at (no d) before = rw (before (omega arith), or-true)
-
--- ---- starts never fall
-
-pub starts-rise : {t : Table} → Proper t → (i j : ℕ) → i ≤ j → j < length (t .starts) → getD (t .starts) i 0 ≤ getD (t .starts) j 0
-starts-rise {t} p i zero a b = let first : i ≡ zero = omega arith in rw first (omega arith)
-starts-rise {t} p i (suc j) a b = at (ℕ-discrete i (suc j)) (λ l. starts-rise p i j l (omega arith))
-  where
-    at : Dec (i ≡ suc j) → (i ≤ j → getD (t .starts) i 0 ≤ getD (t .starts) j 0) → getD (t .starts) i 0 ≤ getD (t .starts) (suc j) 0
-    at (yes e) before = rw e (omega arith)
-    at (no d) before =
-        let back : suc j - 1 ≡ j = omega arith in
-        let step : getD (t .starts) j 0 ≤ getD (t .starts) (suc j) 0 = rw back at (p .order (suc j) b) in
-        omega (arith, before (omega arith))
 
 -- ---- one link after another
 
@@ -90,8 +78,11 @@ module _ {t : Table} {from to head : ℕ} (f : HeadIn (t .starts) from head) whe
             before : (j : ℕ) → j < length (t .starts) → Dec (j < k) → leads t from to j ≡ false
             before j b (yes a) = h .none j a
             before j b (no a) =
+                let rises = rise (λ i. getD (t .starts) i 0) (length (t .starts)) (p .order) in
+                let up = rises head k (h .begins) l in
+                let on = rises k j (omega arith) b in
                 leaves-not t from to j
-                (λ e. n (omega (arith, f .leaves (omega (arith, h .begins)), starts-rise p head k (h .begins) l, starts-rise p k j (omega arith) b)))
+                (λ e. n (omega (arith, f .leaves (omega (arith, h .begins)), up, on)))
 
 module _ (t : Table) (from to : ℕ) where
   pub found : {k : ℕ} → k < length (t .starts) → leads t from to k ≡ true → true ≡ someLeads t from to

@@ -1,8 +1,8 @@
--- `alone::usable_by` meets its contract, by its test. Assumes nothing.
+-- `backed::usable_by` meets its contract, by its test. Assumes nothing.
 use borrow.Author.Needs.{needs}
 use borrow.Author.Tests.{eq-eqb, ne-eqb}
-use Rattle.alone.proofs.usable_by.Statement.{statement}
-use Rattle.alone.proofs.usable_by.Tie as tie
+use Rattle.backed.proofs.usable_by.Statement.{statement}
+use Rattle.backed.proofs.usable_by.Tie as tie
 
 returns : tie.Need-returns
 returns c = rw (eq-eqb (c .before .before .before .args .mark) 0 (c .if1 .taken))
