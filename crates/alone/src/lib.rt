@@ -1,4 +1,6 @@
 // The pass over the rows by which a tree is judged: which are right by themselves, what links offer left aside.
+#![tactic(auto)]
+
 ghost use Rattle.std.specs.Prelude.{◌≡◌, ◌<◌, length, get_or};
 ghost use Rattle.rules.specs.Keep.{one};
 ghost use Rattle.rules.specs.Columns.{Proper, arrays, Whole, most_nodes, no_link, some_leads};

@@ -1,5 +1,7 @@
 // Whether a link is usable, asked of many links that leave one node: for each end the last answer is kept, and for which
 // start. So of thousands of links between two nodes one alone goes looking for a link back.
+#![tactic(auto)]
+
 ghost use Rattle.std.specs.Prelude.{◌≡◌, ◌<◌, length};
 ghost use Rattle.rules.specs.Columns.{Proper, most_nodes, some_leads};
 ghost use Rattle.rules.specs.Lent.{lent, left};

@@ -1,4 +1,6 @@
 // Which nodes' parent links have a link back, told of all nodes at once by one pass over the links.
+#![tactic(auto)]
+
 ghost use Rattle.std.specs.Prelude.{◌≡◌, ◌&&◌, cond, ◌<◌, eqb, length, get_or};
 ghost use Rattle.rules.specs.Columns.{Proper, most_nodes};
 ghost use Rattle.rules.specs.Lent.{lent};

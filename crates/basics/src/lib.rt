@@ -1,1 +1,2 @@
 // No code: what the inner crates' promises and proofs share.
+#![tactic(auto)]

@@ -1,4 +1,6 @@
 // A batch of cost changes, in two lent columns: judging its rows, refusals 7 to 9, and writing its costs.
+#![tactic(auto)]
+
 ghost use Rattle.std.specs.Prelude.{◌≡◌, ◌≤◌, ◌<◌, length, set};
 ghost use Rattle.rules.specs.Columns.{applied, most_links, most_rows};
 ghost use Rattle.batch.specs.Rows.{rows_of_columns, RowsJudged, BatchJudged, Named};

@@ -1,5 +1,7 @@
 // The jobs for programs in other languages. A tree is lent as its three arrays of 256; the answer's number is handed
 // back, 0 for acceptance, and the two values that it carries are written beside it.
+#![tactic(auto)]
+
 ghost use Rattle.std.specs.Prelude.{◌≡◌};
 ghost use Rattle.rules.specs.Refusals.{judge_links, judge_tree};
 ghost use Rattle.rules.specs.Jobs.{Built, Updated, Pathed};

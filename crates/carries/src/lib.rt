@@ -1,4 +1,6 @@
 // Whether a link still carries a node after costs have changed, and a node that waits to be lifted.
+#![tactic(auto)]
+
 ghost use Rattle.std.specs.Prelude.{◌≡◌, ◌<◌, length};
 ghost use Rattle.rules.specs.Columns.{Proper, most_nodes};
 ghost use Rattle.rules.specs.Lent.{lent, left};

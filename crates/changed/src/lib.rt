@@ -1,4 +1,6 @@
 // The list of changed nodes.
+#![tactic(auto)]
+
 ghost use Rattle.std.specs.Prelude.{◌≡◌, not, ◌&&◌, ◌≤◌, eqb, length};
 ghost use Rattle.rules.specs.Columns.{Whole};
 ghost use Rattle.rules.specs.Lent.{lent, left, tree_at, lent_tree};

@@ -1,5 +1,7 @@
 // Two lent columns of costs, of 16 and of 32 bits, read and written as one list: the wide one where it has places, else the
 // narrow one. Whoever works over costs takes both, and only these two functions know that there are two.
+#![tactic(auto)]
+
 ghost use Rattle.std.specs.Prelude.{◌≡◌, ◌<◌, length, get_or};
 ghost use Rattle.costs.specs.Costs.{costs_of, Stored};
 

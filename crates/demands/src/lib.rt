@@ -1,1 +1,2 @@
 // No code: proofs/ shows that the rules meet the three demands.
+#![tactic(auto)]

@@ -1,4 +1,6 @@
 // Judging links one by one: refusals 4 and 5.
+#![tactic(auto)]
+
 ghost use Rattle.std.specs.Prelude.{◌≡◌, ◌||◌, cond, [], ◌≤◌, ltb, length};
 ghost use Rattle.rules.specs.Answers.{told};
 ghost use Rattle.rules.specs.Columns.{most_links, table};

@@ -1,5 +1,7 @@
 // The earlier CHANGE record with the same link, as a stream's refusal 9 tells it: the one place where a row's record is asked
 // for, so nothing is kept of places while records are read.
+#![tactic(auto)]
+
 ghost use Rattle.std.specs.Prelude.{◌≡◌};
 ghost use Rattle.rules.specs.Lent.{lent};
 ghost use Rattle.earlier.specs.Earlier.{behind, earlier_change, earlier_of};

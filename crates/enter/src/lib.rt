@@ -1,5 +1,7 @@
 // A LINK and a CHANGE: judged when they are read, and entered into the lent columns where they are accepted. A refusal
 // leaves every column as it was.
+#![tactic(auto)]
+
 ghost use Rattle.std.specs.Prelude.{◌≡◌, ◌-◌, ◌≤◌, length, get_or, take};
 ghost use Rattle.rules.specs.Answers.{told};
 ghost use Rattle.rules.specs.Columns.{most_links, most_rows};

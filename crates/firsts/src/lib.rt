@@ -1,4 +1,6 @@
 // The first link of every node that hangs, once the parents are right.
+#![tactic(auto)]
+
 ghost use Rattle.std.specs.Prelude.{◌≡◌, ◌≤◌, ◌<◌, length, get_or, replicate};
 ghost use Rattle.rules.specs.Columns.{most_nodes, no_link};
 ghost use Rattle.rules.specs.Lent.{lent, left};

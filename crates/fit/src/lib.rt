@@ -1,5 +1,7 @@
 // Judging a tree: refusals 1 to 6. The smallest node that breaks a rule is the smaller of two, each found by one pass: the
 // smallest that a link offers less than it has, and the smallest whose row is wrong by itself.
+#![tactic(auto)]
+
 ghost use Rattle.std.specs.Prelude.{cond, ◌≡◌, ◌≤◌, ◌<◌, ltb};
 ghost use Rattle.rules.specs.Columns.{arrays, Whole, most_nodes, no_ceiling};
 ghost use Rattle.rules.specs.Lent.{lent_table, lent_tree};

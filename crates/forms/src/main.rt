@@ -2,6 +2,8 @@
 // carries the stream together with its place. A line for each call: of an update the refusal's number, the two values that it
 // carries and the count, the rows of the tree that aren't empty (node:distance,parent,first), the cost column and the lent
 // list; of the reader what it gives, by number, and where it then stands. tests/forms.py works the expected lines out.
+#![tactic(auto)]
+
 use reader::Reader;
 use rules::{Answer, Change};
 use stream::{Item, Read};

@@ -1,4 +1,6 @@
 // A batch that comes as a lent slice of rows, gathered into two columns, which is what the jobs' inner parts take.
+#![tactic(auto)]
+
 ghost use Rattle.std.specs.Prelude.{◌≡◌, ◌<◌, set};
 ghost use Rattle.gather.specs.Gathering.{least, most_read, Gathered};
 

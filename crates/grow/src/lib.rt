@@ -3,6 +3,8 @@
 // after a change a node whose old link is tight keeps that. The loop leaves guesses in `first`; after a change the old
 // first links are the guesses of the nodes that don't move. Inside, the mark is the ceiling: the public functions show
 // that this makes no other tree.
+#![tactic(auto)]
+
 ghost use Rattle.std.specs.Prelude.{◌≡◌, length, replicate};
 ghost use Rattle.rules.specs.Columns.{Proper, Whole, most_nodes, no_link};
 ghost use Rattle.rules.specs.Lent.{tree_at, left_tree, lent, left};

@@ -1,4 +1,6 @@
 // Where the links that leave each node begin.
+#![tactic(auto)]
+
 ghost use Rattle.rules.specs.Lent.{lent};
 ghost use Rattle.basics.specs.Leaving.{Leaving};
 ghost use Rattle.heads.specs.Heads.{Heads};

@@ -1,4 +1,6 @@
 // The refusals of an update and of a path, over a lent table and lent arrays.
+#![tactic(auto)]
+
 ghost use Rattle.std.specs.Prelude.{◌≡◌, ◌<◌, eqb, length, get_or};
 ghost use Rattle.rules.specs.Answers.{told};
 ghost use Rattle.rules.specs.Columns.{Whole, unreached};

@@ -1,4 +1,6 @@
 // The keeping rule, once every node's distance is right.
+#![tactic(auto)]
+
 ghost use Rattle.std.specs.Prelude.{◌≡◌, ◌<◌, length, get_or};
 ghost use Rattle.rules.specs.Columns.{Proper, most_nodes};
 ghost use Rattle.rules.specs.Lent.{lent, left};

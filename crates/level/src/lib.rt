@@ -1,4 +1,6 @@
 // The numbers of a network in which the mark is the ceiling.
+#![tactic(auto)]
+
 ghost use Rattle.std.specs.Prelude.{◌≡◌};
 ghost use Rattle.level.specs.Level.{leveled};
 

@@ -1,5 +1,7 @@
 // Which distances still stand after costs have changed: a node whose parent link no longer carries it goes to
 // unreached, and so does every node that hangs on it.
+#![tactic(auto)]
+
 ghost use Rattle.std.specs.Prelude.{◌≡◌, ◌≢◌, ◌<◌, length, get_or};
 ghost use Rattle.rules.specs.Columns.{Proper, most_nodes, no_link};
 ghost use Rattle.rules.specs.Lent.{lent, left};

@@ -1,4 +1,6 @@
 // What a record tells, as a line of text, put at a place of a lent text.
+#![tactic(auto)]
+
 ghost use Rattle.std.specs.Prelude.{◌≡◌, ◌+◌, ◌≤◌, leb, length};
 ghost use Rattle.lines.specs.Lines.{row_line, changed_line, refusal_line, again_line, line_of, entries_in, line_room};
 ghost use Rattle.words.specs.Putting.{Put};

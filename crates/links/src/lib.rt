@@ -1,4 +1,6 @@
 // Judging a table of links: refusals 1 to 5.
+#![tactic(auto)]
+
 ghost use Rattle.std.specs.Prelude.{◌≡◌};
 ghost use Rattle.rules.specs.Answers.{told};
 ghost use Rattle.rules.specs.Lent.{lent_table};

@@ -1,4 +1,6 @@
 // The pass over the links by which a tree is judged: which nodes a link offers less than they have.
+#![tactic(auto)]
+
 ghost use Rattle.std.specs.Prelude.{◌≡◌, ◌≤◌, ◌<◌, length};
 ghost use Rattle.rules.specs.Columns.{Proper, most_nodes, no_ceiling};
 ghost use Rattle.rules.specs.Lent.{lent, left};

@@ -1,6 +1,8 @@
 // The offer of a link: its start's distance plus its cost, to its end. An offer that is less is taken and brings its link,
 // and the end waits; an equal one may lower the link found. In these numbers the mark is the ceiling: a sum that reaches
 // it is less than no distance.
+#![tactic(auto)]
+
 ghost use Rattle.std.specs.Prelude.{◌≡◌, ◌<◌, length, set, replicate};
 ghost use Rattle.rules.specs.Columns.{Proper, most_nodes};
 ghost use Rattle.rules.specs.Lent.{lent, left};

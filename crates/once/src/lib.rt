@@ -1,1 +1,2 @@
 // No code: proofs/ shows that one input admits one outcome of what each job hands back.
+#![tactic(auto)]

@@ -1,4 +1,6 @@
 // Which records may come, and when.
+#![tactic(auto)]
+
 ghost use Rattle.std.specs.Prelude.{◌≡◌};
 ghost use Rattle.order.specs.Order.{is_unread, is_linking, in_order};
 

@@ -1,4 +1,6 @@
 // The path to a node: the links from the root to it, found from the node upward.
+#![tactic(auto)]
+
 ghost use Rattle.std.specs.Prelude.{◌≡◌, ◌≤◌, ◌<◌, length, get_or};
 ghost use Rattle.rules.specs.Columns.{most_nodes};
 ghost use Rattle.rules.specs.Lent.{lent, left};

@@ -1,1 +1,2 @@
 // No code: specs/ has the pier network and what is said of it, proofs/ shows it.
+#![tactic(auto)]

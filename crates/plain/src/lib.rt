@@ -1,4 +1,6 @@
 // Answers and records as plain numbers, for programs in other languages.
+#![tactic(auto)]
+
 ghost use Rattle.std.specs.Prelude.{◌≡◌, [], ◌∷◌};
 ghost use Rattle.stream.specs.Records.{read_at};
 ghost use Rattle.rules.specs.Answers.{number_of, value_of, second_of};

@@ -1,1 +1,2 @@
 // No code: what is shown of what a stream prints, over the definitions of `lines` and `turns`.
+#![tactic(auto)]

@@ -1,6 +1,8 @@
 // A queue of at most 256 nodes, by the numbers that they wait with, with no heap. A node's key stands at its own place.
 // Above the keys stand the least of each four of them, at places 0 to 63 of `mins`, and the least of each eight of
 // those, at places 64 to 71.
+#![tactic(auto)]
+
 ghost use Rattle.std.specs.Prelude.{◌≡◌, ◌+◌, ◌≤◌, ◌<◌, length, get_or};
 ghost use Rattle.queue.specs.Queue.{empty, key_of, Lesser, Least, LeastKey, Queue, Rekeyed};
 

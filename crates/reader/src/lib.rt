@@ -1,5 +1,7 @@
 // The reader of the record stream as a struct that carries the stream together with its place, thin over
 // `stream::read_at`.
+#![tactic(auto)]
+
 ghost use Rattle.std.specs.Prelude.{◌≡◌};
 ghost use Rattle.reader.specs.Reading.{at_start, HandsOn};
 

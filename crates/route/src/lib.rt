@@ -1,4 +1,6 @@
 // The path to one node, over a lent table and lent arrays.
+#![tactic(auto)]
+
 ghost use Rattle.rules.specs.Answers.{told};
 ghost use Rattle.rules.specs.Jobs.{Pathed};
 ghost use Rattle.rules.specs.Lent.{lent, left, lent_table, lent_tree};

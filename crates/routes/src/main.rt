@@ -1,5 +1,7 @@
 // Reads a record stream from standard input and prints a line for what each record tells. What is printed is worked out by
 // `turns::fill`, text after text; here it is only read and written.
+#![tactic(auto)]
+
 ghost use Rattle.printed.specs.Prints.{Written};
 
 use state::State;

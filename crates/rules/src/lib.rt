@@ -1,4 +1,6 @@
 // What a job answers, what a batch holds and what numbers a profile has. What they mean stands in specs/.
+#![tactic(auto)]
+
 ghost use Rattle.std.specs.Prelude.{◌≡◌};
 ghost use Rattle.rules.specs.Columns.{narrow};
 ghost use Rattle.rules.specs.Answers.{number_of, value_of, second_of};
@@ -9,7 +11,7 @@ pub const UNREACHED: u32 = 16_777_215;
 pub const NO_LINK: u16 = 65_535;
 
 // Accepted, or one of the refusals of the scope's table, with the values that it carries.
-#[derive(Drop)]
+#[derive(Clone, Copy)]
 pub enum Answer {
     Accepted,
     WrongNodeCount,
@@ -32,7 +34,7 @@ pub enum Answer {
 
 // The numbers by which a table's costs are read: the largest cost, the sum from which on a path is no route, and the
 // distance of an unreached node.
-#[derive(Drop)]
+#[derive(Clone, Copy)]
 pub struct Profile {
     pub most: u32,
     pub ceiling: u64,
@@ -51,7 +53,7 @@ pub fn narrow() -> Profile
 }
 
 // A row of a batch.
-#[derive(Drop)]
+#[derive(Clone, Copy)]
 pub struct Change {
     pub link: u16,
     pub cost: u16,

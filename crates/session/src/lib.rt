@@ -1,4 +1,6 @@
 // What each record of the stream does: to the state that is kept between records, and what it tells.
+#![tactic(auto)]
+
 ghost use Rattle.std.specs.Prelude.{◌≡◌, false, [], ◌≤◌, length};
 ghost use Rattle.rules.specs.Columns.{table, most_links, most_rows};
 ghost use Rattle.rules.specs.Refusals.{judge_links};

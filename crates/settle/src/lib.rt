@@ -1,6 +1,8 @@
 // The loop that finds the least sums of costs, whoever starts it: take the waiting node of least distance, and offer
 // its distance plus the cost over each link that leaves it; a node that takes an offer waits. Beside the distances stand
 // the links that the offers came by. In the numbers that the loop is given the mark is the ceiling.
+#![tactic(auto)]
+
 ghost use Rattle.std.specs.Prelude.{◌≡◌, ◌+◌, ◌<◌, length};
 ghost use Rattle.rules.specs.Columns.{Proper, most_nodes};
 ghost use Rattle.rules.specs.Lent.{lent, left};

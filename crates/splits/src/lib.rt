@@ -1,1 +1,2 @@
 // No code: what is shown of whole streams, over the definitions of `stream`.
+#![tactic(auto)]

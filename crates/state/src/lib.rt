@@ -1,4 +1,6 @@
 // What is kept between records, what a record tells, and what becomes of the state.
+#![tactic(auto)]
+
 ghost use Rattle.std.specs.Prelude.{◌≡◌, ◌≤◌, ◌<◌};
 ghost use Rattle.rules.specs.Refusals.{accepted};
 ghost use Rattle.stream.specs.Records.{is_record};

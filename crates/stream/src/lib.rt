@@ -1,4 +1,6 @@
 // The reader of the record stream: what stands at a place of a lent stream, and the place after it.
+#![tactic(auto)]
+
 ghost use Rattle.std.specs.Prelude.{◌≡◌, ◌+◌, ◌*◌, ◌≤◌, length};
 ghost use Rattle.stream.specs.Records.{body_length, bytes_in, number_at, number_of, record_at, stands, GivenAt};
 

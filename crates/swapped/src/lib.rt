@@ -1,1 +1,2 @@
 // No code: specs/ says what batches leave that arrive in one order or another, proofs/ shows what is alike.
+#![tactic(auto)]

@@ -1,6 +1,8 @@
 // The rows of a batch on 512 threads, by the numbers of their links: a row is compared with those on its own thread alone.
 // `ends` has for each thread one more than its last row, `before` for each row one more than the row before it on its
 // thread, and 0 says that there is none.
+#![tactic(auto)]
+
 ghost use Rattle.std.specs.Prelude.{◌≡◌, ◌+◌, ◌<◌, length, get_or};
 ghost use Rattle.rules.specs.Columns.{most_rows};
 ghost use Rattle.threads.specs.Threads.{thread_count, thread_of, Threaded, Earliest};

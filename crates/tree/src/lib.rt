@@ -1,4 +1,6 @@
 // The tree of shortest routes, which travels by value, and the jobs over it, which lend its arrays to those that do the work.
+#![tactic(auto)]
+
 ghost use Rattle.std.specs.Prelude.{◌≡◌, ◌≤◌};
 ghost use Rattle.rules.specs.Answers.{told};
 ghost use Rattle.rules.specs.Columns.{empty_tree};

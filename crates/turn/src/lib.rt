@@ -1,4 +1,6 @@
 // One turn of a stream: the item at a place is read, does what it does, and its line is put into a lent text.
+#![tactic(auto)]
+
 ghost use Rattle.std.specs.Prelude.{◌≡◌, true, ◌+◌, ◌≤◌, length};
 ghost use Rattle.rules.specs.Lent.{lent, left};
 ghost use Rattle.session.specs.Holding.{lists_at, lent_lists, left_lists, Holds};

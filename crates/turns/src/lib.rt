@@ -1,4 +1,6 @@
 // Turn after turn: what they tell, put into a lent text line behind line.
+#![tactic(auto)]
+
 ghost use Rattle.std.specs.Prelude.{◌≤◌, length};
 ghost use Rattle.rules.specs.Lent.{lent, left};
 ghost use Rattle.session.specs.Holding.{lists_at, lent_lists, left_lists, Holds};

@@ -1,4 +1,6 @@
 // Update, over a lent table and lent arrays.
+#![tactic(auto)]
+
 ghost use Rattle.std.specs.Prelude.{◌≡◌};
 ghost use Rattle.rules.specs.Answers.{told};
 ghost use Rattle.rules.specs.Columns.{Whole};

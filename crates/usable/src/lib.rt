@@ -1,5 +1,7 @@
 // Whether a link is usable: the one place that asks it, by the link's number and the columns. Whoever can settle a matter
 // without asking does so first.
+#![tactic(auto)]
+
 ghost use Rattle.std.specs.Prelude.{◌≡◌, ◌<◌, ltb, length, get_or};
 ghost use Rattle.rules.specs.Columns.{Proper, some_leads};
 ghost use Rattle.rules.specs.Lent.{lent};

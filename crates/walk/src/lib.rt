@@ -1,1 +1,2 @@
 // No code: proofs/ has what the proofs by hand share.
+#![tactic(auto)]

@@ -1,4 +1,6 @@
 // Words of a line of text, put at a place of a lent text: numbers in decimal, and links.
+#![tactic(auto)]
+
 ghost use Rattle.std.specs.Prelude.{◌≡◌, [], ◌∷◌, ◌+◌, ◌≤◌};
 ghost use Rattle.words.specs.Words.{space, decimal, link_text};
 ghost use Rattle.words.specs.Putting.{Room, Put};
