@@ -3,9 +3,8 @@
 
 ghost use Rattle.std.specs.Prelude.{◌≡◌, ◌<◌, length, get_or};
 ghost use Rattle.rules.specs.Keep.{one};
-ghost use Rattle.rules.specs.Columns.{Proper, arrays, Whole, most_nodes, no_link, some_leads};
-ghost use Rattle.rules.specs.Lent.{lent};
-ghost use Rattle.usable.specs.Standing.{given_table, lent_net, lent_dist, lent_first, lent_rows};
+ghost use Rattle.rules.specs.Columns.{Proper, arrays, Whole, most_nodes, no_link, some_leads, rows_in};
+ghost use Rattle.usable.specs.Standing.{table_at, net_at, dist_in, first_in};
 ghost use Rattle.backed.specs.Backed.{LedBack};
 ghost use Rattle.alone.specs.Alone.{empty_at, tight_by, first_of, hung_by, hung_alone, row_alone, FirstWrong};
 
@@ -61,8 +60,8 @@ fn hung_by(
     v: usize,
     mark: u8,
 ) -> bool
-    requires { Proper (given_table nodes root starts ends narrow wide) × (length dist.now ≡ most_nodes) × (length first.now ≡ most_nodes) × (by < length starts.now) × (v < most_nodes) × (mark ≡ one (some_leads (given_table nodes root starts ends narrow wide) v (get_or starts.now by 0))) }
-    ensures { result ≡ hung_by (lent_net profile nodes root starts ends narrow wide) (lent_dist profile dist) (lent_first first) by v }
+    requires { Proper (table_at nodes root starts.now ends.now narrow.now wide.now) × (length dist.now ≡ most_nodes) × (length first.now ≡ most_nodes) × (by < length starts.now) × (v < most_nodes) × (mark ≡ one (some_leads (table_at nodes root starts.now ends.now narrow.now wide.now) v (get_or starts.now by 0))) }
+    ensures { result ≡ hung_by (net_at profile nodes root starts.now ends.now narrow.now wide.now) (dist_in profile dist.now) (first_in first.now) by v }
 {
     let k = by as usize;
     let from = starts[k] as usize;
@@ -90,8 +89,8 @@ fn hung(
     backed: &[u8; 257],
     v: usize,
 ) -> bool
-    requires { Proper (given_table nodes root starts ends narrow wide) × Whole (arrays dist.now parent.now first.now) × (v < most_nodes) × LedBack (given_table nodes root starts ends narrow wide) parent.now backed.now }
-    ensures { result ≡ hung_alone (lent_net profile nodes root starts ends narrow wide) (lent_rows profile dist parent first) v }
+    requires { Proper (table_at nodes root starts.now ends.now narrow.now wide.now) × Whole (arrays dist.now parent.now first.now) × (v < most_nodes) × LedBack (table_at nodes root starts.now ends.now narrow.now wide.now) parent.now backed.now }
+    ensures { result ≡ hung_alone (net_at profile nodes root starts.now ends.now narrow.now wide.now) (rows_in profile (arrays dist.now parent.now first.now)) v }
 {
     if nodes <= v {
         return false;
@@ -123,8 +122,8 @@ fn row_right(
     backed: &[u8; 257],
     v: usize,
 ) -> bool
-    requires { Proper (given_table nodes root starts ends narrow wide) × Whole (arrays dist.now parent.now first.now) × (v < most_nodes) × LedBack (given_table nodes root starts ends narrow wide) parent.now backed.now }
-    ensures { result ≡ row_alone (lent_net profile nodes root starts ends narrow wide) (lent_rows profile dist parent first) v }
+    requires { Proper (table_at nodes root starts.now ends.now narrow.now wide.now) × Whole (arrays dist.now parent.now first.now) × (v < most_nodes) × LedBack (table_at nodes root starts.now ends.now narrow.now wide.now) parent.now backed.now }
+    ensures { result ≡ row_alone (net_at profile nodes root starts.now ends.now narrow.now wide.now) (rows_in profile (arrays dist.now parent.now first.now)) v }
 {
     let d = dist[v];
     let p = parent[v];
@@ -153,8 +152,8 @@ pub fn first_bad_row(
     parent: &[u16],
     first: &[u16],
 ) -> usize
-    requires { Proper (given_table nodes root starts ends narrow wide) × Whole (arrays dist.now parent.now first.now) }
-    ensures { FirstWrong (lent_net profile nodes root starts ends narrow wide) (lent_rows profile dist parent first) result }
+    requires { Proper (table_at nodes root starts.now ends.now narrow.now wide.now) × Whole (arrays dist.now parent.now first.now) }
+    ensures { FirstWrong (net_at profile nodes root starts.now ends.now narrow.now wide.now) (rows_in profile (arrays dist.now parent.now first.now)) result }
 {
     let backed = backed::led_back(nodes, root, starts, ends, narrow, wide, parent);
     let mut v: usize = 0;

@@ -4,10 +4,9 @@
 
 ghost use Rattle.std.specs.Prelude.{◌≡◌, ◌<◌, length};
 ghost use Rattle.rules.specs.Columns.{Proper, most_nodes, some_leads};
-ghost use Rattle.rules.specs.Lent.{lent, left};
 ghost use Rattle.rules.specs.Tests.{usable};
 ghost use Rattle.heads.specs.Heads.{HeadIn, Heads};
-ghost use Rattle.usable.specs.Standing.{given_table, lent_table_at, lent_net};
+ghost use Rattle.usable.specs.Standing.{table_at, net_at};
 ghost use Rattle.asked.specs.Asked.{kept, Kept};
 
 use rules::Profile;
@@ -33,8 +32,8 @@ fn leads_back(
     start: u16,
     end: u16,
 ) -> bool
-    requires { Proper (given_table nodes root starts ends narrow wide) × Kept (given_table nodes root starts ends narrow wide) asked.old × (start < most_nodes) × (end < most_nodes) × HeadIn starts.now end head }
-    ensures { (result ≡ some_leads (lent_table_at nodes root starts ends narrow wide) end start) × Kept (lent_table_at nodes root starts ends narrow wide) (left asked) }
+    requires { Proper (table_at nodes root starts.now ends.now narrow.now wide.now) × Kept (table_at nodes root starts.now ends.now narrow.now wide.now) asked.old × (start < most_nodes) × (end < most_nodes) × HeadIn starts.now end head }
+    ensures { (result ≡ some_leads (table_at nodes root starts.now ends.now narrow.now wide.now) end start) × Kept (table_at nodes root starts.now ends.now narrow.now wide.now) asked.new }
 {
     let node = end as usize;
     let last = asked[node];
@@ -62,8 +61,8 @@ pub fn usable(
     asked: &mut [u16; 256],
     k: usize,
 ) -> bool
-    requires { Proper (given_table nodes root starts ends narrow wide) × Heads starts.now at.now × Kept (given_table nodes root starts ends narrow wide) asked.old × (k < length starts.now) }
-    ensures { (result ≡ usable (lent_net profile nodes root starts ends narrow wide) k) × Kept (lent_table_at nodes root starts ends narrow wide) (left asked) }
+    requires { Proper (table_at nodes root starts.now ends.now narrow.now wide.now) × Heads starts.now at.now × Kept (table_at nodes root starts.now ends.now narrow.now wide.now) asked.old × (k < length starts.now) }
+    ensures { (result ≡ usable (net_at profile nodes root starts.now ends.now narrow.now wide.now) k) × Kept (table_at nodes root starts.now ends.now narrow.now wide.now) asked.new }
 {
     if usable::up(narrow, wide, k) {
         let end = ends[k];

@@ -3,9 +3,8 @@
 
 ghost use Rattle.std.specs.Prelude.{◌≡◌, ◌&&◌, cond, ◌<◌, eqb, length, get_or};
 ghost use Rattle.rules.specs.Columns.{Proper, most_nodes};
-ghost use Rattle.rules.specs.Lent.{lent};
+ghost use Rattle.usable.specs.Standing.{table_at};
 ghost use Rattle.costs.specs.Costs.{costs_of};
-ghost use Rattle.usable.specs.Standing.{given_table, lent_table_at};
 ghost use Rattle.backed.specs.Backed.{above, Above, LedBack, usable_by};
 
 const NODES: usize = 256;
@@ -15,7 +14,7 @@ const NO_NODE: u16 = 65_535;
 
 // Where a node's parent link starts, and 65,535 where it has none.
 fn above(starts: &[u16], link: u16) -> u16
-    ensures { result ≡ above (lent starts) link }
+    ensures { result ≡ above starts.now link }
 {
     let k = link as usize;
     if k < starts.len() { starts[k] } else { NO_NODE }
@@ -24,7 +23,7 @@ fn above(starts: &[u16], link: u16) -> u16
 // The same of every node.
 fn all_above(starts: &[u16], parent: &[u16]) -> [u16; 256]
     requires { length parent.now ≡ most_nodes }
-    ensures { Above (lent starts) (lent parent) most_nodes result }
+    ensures { Above starts.now parent.now most_nodes result }
 {
     let mut up = [NO_NODE; 256];
     let mut v: usize = 0;
@@ -58,8 +57,8 @@ pub fn led_back(
     wide: &[u32],
     parent: &[u16],
 ) -> [u8; 257]
-    requires { Proper (given_table nodes root starts ends narrow wide) × (length parent.now ≡ most_nodes) }
-    ensures { LedBack (lent_table_at nodes root starts ends narrow wide) (lent parent) result }
+    requires { Proper (table_at nodes root starts.now ends.now narrow.now wide.now) × (length parent.now ≡ most_nodes) }
+    ensures { LedBack (table_at nodes root starts.now ends.now narrow.now wide.now) parent.now result }
 {
     let above = all_above(starts, parent);
     let mut marks = [0u8; 257];
@@ -77,7 +76,7 @@ pub fn led_back(
 // A link is usable, where its mark tells whether it has a link back: 0 where it has none.
 pub fn usable_by(narrow: &[u16], wide: &[u32], k: usize, mark: u8) -> bool
     requires { k < length (costs_of narrow.now wide.now) }
-    ensures { result ≡ usable_by mark (get_or (costs_of (lent narrow) (lent wide)) k 0) }
+    ensures { result ≡ usable_by mark (get_or (costs_of narrow.now wide.now) k 0) }
 {
     if mark == 0 {
         return false;

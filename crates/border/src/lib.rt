@@ -5,11 +5,11 @@
 ghost use Rattle.std.specs.Prelude.{◌≡◌};
 ghost use Rattle.rules.specs.Refusals.{judge_links, judge_tree};
 ghost use Rattle.rules.specs.Jobs.{Built, Updated, Pathed};
-ghost use Rattle.rules.specs.Lent.{lent, left, lent_table, lent_tree, left_tree};
 ghost use Rattle.batch.specs.Rows.{rows_of_columns};
 ghost use Rattle.stream.specs.Records.{read_at};
 ghost use Rattle.plain.specs.Verdicts.{InNumbers};
 ghost use Rattle.plain.specs.Readings.{HandedBack};
+ghost use Rattle.rules.specs.Columns.{table, arrays};
 
 #[unsafe(no_mangle)]
 pub extern "C" fn routes_judge_links(
@@ -20,7 +20,7 @@ pub extern "C" fn routes_judge_links(
     costs: &[u16],
     values: &mut [u16; 2],
 ) -> u16
-    ensures { InNumbers (λ v. v ≡ judge_links (lent_table nodes root starts ends costs)) result (left values) }
+    ensures { InNumbers (λ v. v ≡ judge_links (table nodes root starts.now ends.now costs.now)) result values.new }
 {
     plain::tell(links::judge_links(nodes, root, starts, ends, costs), values)
 }
@@ -37,7 +37,7 @@ pub extern "C" fn routes_judge_tree<'a>(
     first: &'a [u16; 256],
     values: &mut [u16; 2],
 ) -> u16
-    ensures { InNumbers (λ v. v ≡ judge_tree (lent_table nodes root starts ends costs) (lent_tree dist parent first)) result (left values) }
+    ensures { InNumbers (λ v. v ≡ judge_tree (table nodes root starts.now ends.now costs.now) (arrays dist.now parent.now first.now)) result values.new }
 {
     plain::tell(
         fit::judge_rows(nodes, root, starts, ends, costs, dist, parent, first),
@@ -57,7 +57,7 @@ pub extern "C" fn routes_build(
     first: &mut [u16; 256],
     values: &mut [u16; 2],
 ) -> u16
-    ensures { InNumbers (λ v. Built (lent_table nodes root starts ends costs) v (left_tree dist parent first)) result (left values) }
+    ensures { InNumbers (λ v. Built (table nodes root starts.now ends.now costs.now) v (arrays dist.new parent.new first.new)) result values.new }
 {
     plain::tell(
         build::build(nodes, root, starts, ends, costs, dist, parent, first),
@@ -81,7 +81,7 @@ pub extern "C" fn routes_update(
     count: &mut usize,
     values: &mut [u16; 2],
 ) -> u16
-    ensures { InNumbers (λ v. Updated (lent_table nodes root starts ends costs) (lent_tree dist parent first) (rows_of_columns (lent changed) (lent newcosts)) (lent list) v (left_tree dist parent first) (left costs) (left list) (left count)) result (left values) }
+    ensures { InNumbers (λ v. Updated (table nodes root starts.now ends.now costs.old) (arrays dist.old parent.old first.old) (rows_of_columns changed.now newcosts.now) list.old v (arrays dist.new parent.new first.new) costs.new list.new count.new) result values.new }
 {
     plain::tell(
         update::update(
@@ -106,7 +106,7 @@ pub extern "C" fn routes_path<'a>(
     count: &mut usize,
     values: &mut [u16; 2],
 ) -> u16
-    ensures { InNumbers (λ v. Pathed (lent_table nodes root starts ends costs) (lent_tree dist parent first) node (lent list) v (left list) (left count)) result (left values) }
+    ensures { InNumbers (λ v. Pathed (table nodes root starts.now ends.now costs.now) (arrays dist.now parent.now first.now) node list.old v list.new count.new) result values.new }
 {
     plain::tell(
         route::path(
@@ -124,7 +124,7 @@ pub extern "C" fn routes_read(
     numbers: &mut [u32; 3],
     next: &mut usize,
 ) -> u16
-    ensures { HandedBack (read_at (lent bytes) place) result (left kind) (left numbers) (left next) }
+    ensures { HandedBack (read_at bytes.now place) result kind.new numbers.new next.new }
 {
     plain::read(bytes, place, kind, numbers, next)
 }

@@ -3,9 +3,8 @@
 
 ghost use Rattle.std.specs.Prelude.{◌≡◌};
 ghost use Rattle.rules.specs.Answers.{told};
-ghost use Rattle.rules.specs.Columns.{empty_tree};
+ghost use Rattle.rules.specs.Columns.{empty_tree, table, arrays};
 ghost use Rattle.rules.specs.Jobs.{Built};
-ghost use Rattle.rules.specs.Lent.{lent_table, left_tree};
 
 use rules::{Answer, UNREACHED};
 
@@ -13,7 +12,7 @@ const NO_LINK: u16 = 65_535;
 
 // Every node unreached, and no links.
 fn clear(dist: &mut [u32; 256], parent: &mut [u16; 256], first: &mut [u16; 256])
-    ensures { left_tree dist parent first ≡ empty_tree }
+    ensures { arrays dist.new parent.new first.new ≡ empty_tree }
 {
     *dist = [UNREACHED; 256];
     *parent = [NO_LINK; 256];
@@ -31,7 +30,7 @@ pub fn build(
     parent: &mut [u16; 256],
     first: &mut [u16; 256],
 ) -> Answer
-    ensures { Built (lent_table nodes root starts ends costs) (told result) (left_tree dist parent first) }
+    ensures { Built (table nodes root starts.now ends.now costs.now) (told result) (arrays dist.new parent.new first.new) }
 {
     clear(dist, parent, first);
     let answer = links::judge_links(nodes, root, starts, ends, costs);

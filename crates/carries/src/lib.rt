@@ -3,8 +3,7 @@
 
 ghost use Rattle.std.specs.Prelude.{◌≡◌, ◌<◌, length};
 ghost use Rattle.rules.specs.Columns.{Proper, most_nodes};
-ghost use Rattle.rules.specs.Lent.{lent, left};
-ghost use Rattle.usable.specs.Standing.{given_table, lent_net};
+ghost use Rattle.usable.specs.Standing.{table_at, net_at};
 ghost use Rattle.heads.specs.Heads.{Heads};
 ghost use Rattle.basics.specs.Tells.{Tells};
 ghost use Rattle.offer.specs.Offer.{Lined};
@@ -41,8 +40,8 @@ pub fn carries(
     v: usize,
     dist: &[u32; 256],
 ) -> bool
-    requires { Proper (given_table nodes root starts ends narrow wide) × (length dist.now ≡ most_nodes) × (v < most_nodes) × Heads starts.now at.now }
-    ensures { Tells (Carries (lent_net profile nodes root starts ends narrow wide) (lent dist) link v) result }
+    requires { Proper (table_at nodes root starts.now ends.now narrow.now wide.now) × (length dist.now ≡ most_nodes) × (v < most_nodes) × Heads starts.now at.now }
+    ensures { Tells (Carries (net_at profile nodes root starts.now ends.now narrow.now wide.now) dist.now link v) result }
 {
     let k = link as usize;
     if starts.len() <= k {
@@ -62,7 +61,7 @@ pub fn carries(
 // Node `v` waits to be lifted, if it is reached.
 pub fn note(mark: u32, v: usize, dist: &[u32; 256], keys: &mut [u64; 256], mins: &mut [u64; 72])
     requires { Lined mark dist.now keys.old mins.old × (v < most_nodes) }
-    ensures { Waiting mark (lent dist) (lent keys) v (left keys) (left mins) }
+    ensures { Waiting mark dist.now keys.old v keys.new mins.new }
 {
     let d = dist[v];
     if d < mark {

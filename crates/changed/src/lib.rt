@@ -2,8 +2,7 @@
 #![tactic(auto)]
 
 ghost use Rattle.std.specs.Prelude.{◌≡◌, not, ◌&&◌, ◌≤◌, eqb, length};
-ghost use Rattle.rules.specs.Columns.{Whole};
-ghost use Rattle.rules.specs.Lent.{lent, left, tree_at, lent_tree};
+ghost use Rattle.rules.specs.Columns.{Whole, arrays};
 ghost use Rattle.changed.specs.Listed.{ListedBelow};
 
 // A row differs from another in its distance, its parent or its first link.
@@ -37,8 +36,8 @@ pub fn list_changed<'a>(
     new_first: &'a [u16; 256],
     list: &mut [u16],
 ) -> usize
-    requires { Whole (tree_at dist parent first) × Whole (tree_at new_dist new_parent new_first) × (nodes ≤ 256) × (nodes ≤ length list.old) }
-    ensures { ListedBelow (lent_tree dist parent first) (lent_tree new_dist new_parent new_first) nodes (lent list) (left list) result }
+    requires { Whole (arrays dist.now parent.now first.now) × Whole (arrays new_dist.now new_parent.now new_first.now) × (nodes ≤ 256) × (nodes ≤ length list.old) }
+    ensures { ListedBelow (arrays dist.now parent.now first.now) (arrays new_dist.now new_parent.now new_first.now) nodes list.old list.new result }
 {
     let mut count: usize = 0;
     let mut v: usize = 0;

@@ -4,7 +4,6 @@
 ghost use Rattle.std.specs.Prelude.{◌≡◌, ◌||◌, cond, [], ◌≤◌, ltb, length};
 ghost use Rattle.rules.specs.Answers.{told};
 ghost use Rattle.rules.specs.Columns.{most_links, table};
-ghost use Rattle.rules.specs.Lent.{lent};
 ghost use Rattle.rules.specs.Refusals.{accepted, judge_each, wrong_ends};
 
 use rules::Answer;
@@ -31,7 +30,7 @@ fn fault(nodes: u16, start: u16, end: u16, previous: u16) -> u16
 // the columns, so that the compiler judges several links at once.
 pub fn wrong_links(nodes: u16, starts: &[u16], ends: &[u16]) -> u16
     requires { (length starts.now ≡ length ends.now) × (length starts.now ≤ most_links) }
-    ensures { result ≡ 0 → accepted ≡ judge_each (table nodes 0 (lent starts) (lent ends) []) }
+    ensures { result ≡ 0 → accepted ≡ judge_each (table nodes 0 starts.now ends.now []) }
 {
     let mut count: u16 = 0;
     // Nothing is below 0, so link 0, with none before it, never counts as a fall.
@@ -50,7 +49,7 @@ pub fn wrong_links(nodes: u16, starts: &[u16], ends: &[u16]) -> u16
 // remembered till the end.
 pub fn judge_each(nodes: usize, starts: &[u16], ends: &[u16]) -> Answer
     requires { (length starts.now ≡ length ends.now) × (length starts.now ≤ most_links) }
-    ensures { told result ≡ judge_each (table nodes 0 (lent starts) (lent ends) []) }
+    ensures { told result ≡ judge_each (table nodes 0 starts.now ends.now []) }
 {
     let links = starts.len();
     // The first link that starts below the one before it; while there is none, the number of links.

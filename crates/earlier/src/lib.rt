@@ -3,7 +3,6 @@
 #![tactic(auto)]
 
 ghost use Rattle.std.specs.Prelude.{◌≡◌};
-ghost use Rattle.rules.specs.Lent.{lent};
 ghost use Rattle.earlier.specs.Earlier.{behind, earlier_change, earlier_of};
 
 use stream::Item;
@@ -41,7 +40,7 @@ fn behind(item: Item, at: usize, link: u16, found: usize, none: usize) -> usize
 
 // The first CHANGE of the link behind the last APPLY before a place; the place itself where there is none.
 pub fn earlier_change(stream: &[u8], place: usize, link: u16) -> usize
-    ensures { result ≡ earlier_change (lent stream) place link }
+    ensures { result ≡ earlier_change stream.now place link }
 {
     let mut found = place;
     let mut at: usize = 0;
@@ -60,7 +59,7 @@ pub fn earlier_change(stream: &[u8], place: usize, link: u16) -> usize
 
 // The same of an item, whose place it is; 0 where it is no CHANGE.
 pub fn earlier_of(stream: &[u8], place: usize, item: Item) -> usize
-    ensures { result ≡ earlier_of (lent stream) place item }
+    ensures { result ≡ earlier_of stream.now place item }
 {
     match item {
         Item::Change { link, cost: _ } => earlier_change(stream, place, link),

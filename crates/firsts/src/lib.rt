@@ -3,7 +3,6 @@
 
 ghost use Rattle.std.specs.Prelude.{◌≡◌, ◌≤◌, ◌<◌, length, get_or, replicate};
 ghost use Rattle.rules.specs.Columns.{most_nodes, no_link};
-ghost use Rattle.rules.specs.Lent.{lent, left};
 ghost use Rattle.basics.specs.Tells.{Tells};
 ghost use Rattle.basics.specs.Leaving.{Leaving};
 ghost use Rattle.firsts.specs.FirstLinks.{Has, Rising, FirstBy, Standing, FirstLink, Known, Spread, FirstLinks};
@@ -15,7 +14,7 @@ const NODES: usize = 256;
 // The node that a link starts at.
 fn start_of(starts: &[u16], link: u16) -> usize
     requires { link < length starts.now }
-    ensures { result ≡ get_or (lent starts) link 0 }
+    ensures { result ≡ get_or starts.now link 0 }
 {
     let k = link as usize;
     starts[k] as usize
@@ -25,7 +24,7 @@ fn start_of(starts: &[u16], link: u16) -> usize
 // where it starts; a number that is no link's stays, as that of none does.
 pub fn first_by(root: usize, starts: &[u16], first: &[u16; 256], link: u16) -> u16
     requires { Leaving starts.now × (length first.now ≡ most_nodes) }
-    ensures { FirstBy root (lent starts) (lent first) link result }
+    ensures { FirstBy root starts.now first.now link result }
 {
     let k = link as usize;
     if starts.len() <= k {
@@ -45,7 +44,7 @@ fn firsts_stand(
     first: &[u16; 256],
 ) -> bool
     requires { Rising root starts.now dist.now parent.now × Leaving starts.now × (length first.now ≡ most_nodes) }
-    ensures { Tells (Standing root (lent starts) (lent parent) most_nodes (lent first)) result }
+    ensures { Tells (Standing root starts.now parent.now most_nodes first.now) result }
 {
     let mut v: usize = 0;
     while v < NODES {
@@ -59,7 +58,7 @@ fn firsts_stand(
 
 // No first link is known.
 fn forget(first: &mut [u16; 256])
-    ensures { left first ≡ replicate most_nodes no_link }
+    ensures { first.new ≡ replicate most_nodes no_link }
 {
     *first = [NO_LINK; 256];
 }
@@ -75,7 +74,7 @@ fn climb(
     node: usize,
 ) -> u16
     requires { Rising root starts.now dist.now parent.now × Known root starts.now parent.now first.now × Has parent.now node }
-    ensures { FirstLink root (lent starts) (lent parent) node result }
+    ensures { FirstLink root starts.now parent.now node result }
 {
     let mut v = node;
     loop {
@@ -103,7 +102,7 @@ fn spread(
     link: u16,
 )
     requires { Rising root starts.now dist.now parent.now × Known root starts.now parent.now first.old × FirstLink root starts.now parent.now node link }
-    ensures { Spread root (lent starts) (lent parent) node (lent first) (left first) }
+    ensures { Spread root starts.now parent.now node first.old first.new }
 {
     let mut v = node;
     loop {
@@ -129,7 +128,7 @@ fn first_links(
     first: &mut [u16; 256],
 )
     requires { Rising root starts.now dist.now parent.now × Known root starts.now parent.now first.old × (nodes ≤ most_nodes) }
-    ensures { FirstLinks root (lent starts) (lent parent) nodes (left first) }
+    ensures { FirstLinks root starts.now parent.now nodes first.new }
 {
     let mut v: usize = 0;
     while v < nodes {
@@ -155,7 +154,7 @@ pub fn renew_firsts(
     first: &mut [u16; 256],
 )
     requires { Rising root starts.now dist.now parent.now × Leaving starts.now × (nodes ≤ most_nodes) × (length first.old ≡ most_nodes) }
-    ensures { FirstLinks root (lent starts) (lent parent) nodes (left first) }
+    ensures { FirstLinks root starts.now parent.now nodes first.new }
 {
     if firsts_stand(root, starts, dist, parent, first) {
         return;

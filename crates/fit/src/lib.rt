@@ -3,11 +3,10 @@
 #![tactic(auto)]
 
 ghost use Rattle.std.specs.Prelude.{cond, ◌≡◌, ◌≤◌, ◌<◌, ltb};
-ghost use Rattle.rules.specs.Columns.{arrays, Whole, most_nodes, no_ceiling};
-ghost use Rattle.rules.specs.Lent.{lent_table, lent_tree};
+ghost use Rattle.rules.specs.Columns.{arrays, Whole, most_nodes, no_ceiling, table};
 ghost use Rattle.rules.specs.Refusals.{only, accepted, refused, judge_links, judge_tree, judge_tree_in};
 ghost use Rattle.rules.specs.Answers.{told};
-ghost use Rattle.usable.specs.Standing.{given_table, lent_table_at};
+ghost use Rattle.usable.specs.Standing.{table_at};
 
 use rules::{Answer, Profile};
 
@@ -36,8 +35,8 @@ fn judge_tree(
     parent: &[u16],
     first: &[u16],
 ) -> Answer
-    requires { (judge_links (given_table nodes root starts ends narrow wide) ≡ accepted) × Whole (arrays dist.now parent.now first.now) × (0 < profile.mark) × (profile.ceiling ≤ no_ceiling) }
-    ensures { told result ≡ judge_tree_in profile (lent_table_at nodes root starts ends narrow wide) (lent_tree dist parent first) }
+    requires { (judge_links (table_at nodes root starts.now ends.now narrow.now wide.now) ≡ accepted) × Whole (arrays dist.now parent.now first.now) × (0 < profile.mark) × (profile.ceiling ≤ no_ceiling) }
+    ensures { told result ≡ judge_tree_in profile (table_at nodes root starts.now ends.now narrow.now wide.now) (arrays dist.now parent.now first.now) }
 {
     let row = alone::first_bad_row(
         profile, nodes, root, starts, ends, narrow, wide, dist, parent, first,
@@ -61,7 +60,7 @@ pub fn judge_lent(
     first: &[u16],
 ) -> Answer
     requires { Whole (arrays dist.now parent.now first.now) }
-    ensures { told result ≡ judge_tree (lent_table nodes root starts ends costs) (lent_tree dist parent first) }
+    ensures { told result ≡ judge_tree (table nodes root starts.now ends.now costs.now) (arrays dist.now parent.now first.now) }
 {
     let links = links::judge_links(nodes, root, starts, ends, costs);
     if rules::number(links) != 0 {
@@ -85,7 +84,7 @@ pub fn judge_rows<'a>(
     parent: &'a [u16; 256],
     first: &'a [u16; 256],
 ) -> Answer
-    ensures { told result ≡ judge_tree (lent_table nodes root starts ends costs) (lent_tree dist parent first) }
+    ensures { told result ≡ judge_tree (table nodes root starts.now ends.now costs.now) (arrays dist.now parent.now first.now) }
 {
     judge_lent(nodes, root, starts, ends, costs, dist, parent, first)
 }

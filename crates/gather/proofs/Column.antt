@@ -4,7 +4,7 @@ use mathlib.Core.Path.{refl, sym, subst}
 use mathlib.Core.List.{List, [], ◌∷◌, map, map-id}
 use Prim.Native.Nat.{ℕ, zero, suc, ◌<◌, ◌^◌}
 use seplogic.Ra.Ura.{Ura}
-use seplogic.Ra.TreeShare.{full_share}
+use Rattle.std.specs.Borrow.{full_share}
 use lib.Dec.{T, lit<}
 use lib.ListN.{replicate, length-replicate}
 use mir.Syntax.{Ty, ty_array, ty_int, w16, w64}
@@ -82,4 +82,4 @@ as_field xs is = subst (λ (ys : List ℕ). Is column ys (column_val xs ∷ []))
 
 pub rows_are : (r : Rows) → IsColumn r.link → IsColumn r.cost → r.count < 2 ^ 64 → Is R.the_row r (array_val (column_val r.link ∷ column_val r.cost ∷ vint w64 r.count ∷ []) ∷ [])
 rows_are r links_are costs_are fits =
-    ((column_val r.link ∷ [], (column_val r.cost ∷ [], (vint w64 r.count ∷ [], tt))), (refl, (as_field r.link links_are, (as_field r.cost costs_are, ((refl, fits), tt)))))
+    ((column_val r.link ∷ [], (column_val r.cost ∷ [], (vint w64 r.count ∷ [], tt))), (refl, (links_are, (costs_are, ((refl, fits), tt)))))

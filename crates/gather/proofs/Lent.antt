@@ -3,7 +3,7 @@
 use mathlib.Core.List.{[], ◌∷◌}
 use Prim.Native.Nat.{ℕ}
 use seplogic.Ra.Ura.{Ura}
-use seplogic.Ra.TreeShare.{full_share}
+use Rattle.std.specs.Borrow.{full_share}
 use mir.Syntax.{Lifetime}
 use mir.Val.{vptr}
 use base.Logic.{SProp, ent, sep, ex}

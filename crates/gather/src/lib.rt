@@ -8,7 +8,7 @@ use rules::Change;
 
 // The first `count` places of both columns are rows. There is room for one row more than a batch may have, by which a
 // batch of too many rows is told.
-#[derive(Drop)]
+#[derive(Clone, Copy)]
 pub struct Rows {
     pub link: [u16; 257],
     pub cost: [u16; 257],

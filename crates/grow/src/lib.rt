@@ -6,9 +6,8 @@
 #![tactic(auto)]
 
 ghost use Rattle.std.specs.Prelude.{◌≡◌, length, replicate};
-ghost use Rattle.rules.specs.Columns.{Proper, Whole, most_nodes, no_link};
-ghost use Rattle.rules.specs.Lent.{tree_at, left_tree, lent, left};
-ghost use Rattle.usable.specs.Standing.{given_table, given_net, lent_table_at, lent_net};
+ghost use Rattle.rules.specs.Columns.{Proper, Whole, most_nodes, no_link, arrays};
+ghost use Rattle.usable.specs.Standing.{table_at, net_at};
 ghost use Rattle.level.specs.Level.{Level, Ample};
 ghost use Rattle.queue.specs.Queue.{empty};
 ghost use Rattle.heads.specs.Heads.{Heads};
@@ -33,8 +32,8 @@ fn grow_level(
     parent: &mut [u16; 256],
     first: &mut [u16; 256],
 )
-    requires { Proper (given_table nodes root starts ends narrow wide) × Level (given_net profile nodes root starts ends narrow wide) × Whole (tree_at dist parent first) }
-    ensures { Grown profile (lent_table_at nodes root starts ends narrow wide) (left_tree dist parent first) }
+    requires { Proper (table_at nodes root starts.now ends.now narrow.now wide.now) × Level (net_at profile nodes root starts.now ends.now narrow.now wide.now) × Whole (arrays dist.old parent.old first.old) }
+    ensures { Grown profile (table_at nodes root starts.now ends.now narrow.now wide.now) (arrays dist.new parent.new first.new) }
 {
     *dist = [profile.mark; 256];
     *parent = [NO_LINK; 256];
@@ -69,8 +68,8 @@ fn finish(
     parent: &mut [u16; 256],
     first: &mut [u16; 256],
 )
-    requires { Proper (given_table nodes root starts ends narrow wide) × Level (given_net profile nodes root starts ends narrow wide) × Heads starts.now at.now × Begun (given_net profile nodes root starts ends narrow wide) parent.old dist.old keys.old mins.old found.old × Rooted (given_net profile nodes root starts ends narrow wide) parent.old × (length first.old ≡ most_nodes) × Kept (given_table nodes root starts ends narrow wide) asked.old }
-    ensures { Regrown profile (lent_table_at nodes root starts ends narrow wide) (lent parent) (left_tree dist parent first) }
+    requires { Proper (table_at nodes root starts.now ends.now narrow.now wide.now) × Level (net_at profile nodes root starts.now ends.now narrow.now wide.now) × Heads starts.now at.now × Begun (net_at profile nodes root starts.now ends.now narrow.now wide.now) parent.old dist.old keys.old mins.old found.old × Rooted (net_at profile nodes root starts.now ends.now narrow.now wide.now) parent.old × (length first.old ≡ most_nodes) × Kept (table_at nodes root starts.now ends.now narrow.now wide.now) asked.old }
+    ensures { Regrown profile (table_at nodes root starts.now ends.now narrow.now wide.now) parent.old (arrays dist.new parent.new first.new) }
 {
     settle::settle(
         profile, nodes, root, starts, ends, narrow, wide, at, asked, dist, keys, mins, found, first,
@@ -100,8 +99,8 @@ fn offer_touched(
     mins: &mut [u64; 72],
     found: &mut [u16; 256],
 )
-    requires { Proper (given_table nodes root starts ends narrow wide) × Seeded (given_net profile nodes root starts ends narrow wide) dist.old keys.old mins.old × Naming (length starts.now) changed.now × Apart (given_net profile nodes root starts ends narrow wide) changed.now dist.old keys.old lifted first.now × (length first.now ≡ most_nodes) × (length found.old ≡ most_nodes) × Heads starts.now at.now × Kept (given_table nodes root starts ends narrow wide) asked.old }
-    ensures { Heard (lent_net profile nodes root starts ends narrow wide) (Calm (lent_net profile nodes root starts ends narrow wide) (lent dist) (lent keys)) (lent dist) (lent keys) (lent found) Every (left dist) (left keys) (left mins) (left found) × Kept (lent_table_at nodes root starts ends narrow wide) (left asked) }
+    requires { Proper (table_at nodes root starts.now ends.now narrow.now wide.now) × Seeded (net_at profile nodes root starts.now ends.now narrow.now wide.now) dist.old keys.old mins.old × Naming (length starts.now) changed.now × Apart (net_at profile nodes root starts.now ends.now narrow.now wide.now) changed.now dist.old keys.old lifted first.now × (length first.now ≡ most_nodes) × (length found.old ≡ most_nodes) × Heads starts.now at.now × Kept (table_at nodes root starts.now ends.now narrow.now wide.now) asked.old }
+    ensures { Heard (net_at profile nodes root starts.now ends.now narrow.now wide.now) (Calm (net_at profile nodes root starts.now ends.now narrow.now wide.now) dist.old keys.old) dist.old keys.old found.old Every dist.new keys.new mins.new found.new × Kept (table_at nodes root starts.now ends.now narrow.now wide.now) asked.new }
 {
     settle::offer_into(
         profile, nodes, root, starts, ends, narrow, wide, at, asked, lifted, first, dist, keys,
@@ -133,8 +132,8 @@ fn reseed(
     mins: &mut [u64; 72],
     found: &mut [u16; 256],
 ) -> bool
-    requires { Proper (given_table nodes root starts ends narrow wide) × Level (given_net profile nodes root starts ends narrow wide) × Fitted profile (given_table nodes root starts ends narrow wide) changed.now (tree_at dist parent first) × (keys.old ≡ replicate 256 empty) × (mins.old ≡ replicate 72 empty) × (found.old ≡ replicate 256 no_link) × Heads starts.now at.now × Kept (given_table nodes root starts ends narrow wide) asked.old }
-    ensures { Begun (lent_net profile nodes root starts ends narrow wide) (lent parent) (left dist) (left keys) (left mins) (left found) × Reseeded (lent_net profile nodes root starts ends narrow wide) (lent parent) (lent dist) (lent first) (left dist) (left first) (left keys) (left mins) result × Kept (lent_table_at nodes root starts ends narrow wide) (left asked) }
+    requires { Proper (table_at nodes root starts.now ends.now narrow.now wide.now) × Level (net_at profile nodes root starts.now ends.now narrow.now wide.now) × Fitted profile (table_at nodes root starts.now ends.now narrow.now wide.now) changed.now (arrays dist.old parent.now first.old) × (keys.old ≡ replicate 256 empty) × (mins.old ≡ replicate 72 empty) × (found.old ≡ replicate 256 no_link) × Heads starts.now at.now × Kept (table_at nodes root starts.now ends.now narrow.now wide.now) asked.old }
+    ensures { Begun (net_at profile nodes root starts.now ends.now narrow.now wide.now) parent.now dist.new keys.new mins.new found.new × Reseeded (net_at profile nodes root starts.now ends.now narrow.now wide.now) parent.now dist.old first.old dist.new first.new keys.new mins.new result × Kept (table_at nodes root starts.now ends.now narrow.now wide.now) asked.new }
 {
     let lifted = lift::lift_rows(
         profile, nodes, root, starts, ends, narrow, wide, changed, at, parent, dist, first, keys,
@@ -164,8 +163,8 @@ fn regrow_level(
     parent: &mut [u16; 256],
     first: &mut [u16; 256],
 )
-    requires { Proper (given_table nodes root starts ends narrow wide) × Level (given_net profile nodes root starts ends narrow wide) × Fitted profile (given_table nodes root starts ends narrow wide) changed.now (tree_at dist parent first) }
-    ensures { Regrown profile (lent_table_at nodes root starts ends narrow wide) (lent parent) (left_tree dist parent first) }
+    requires { Proper (table_at nodes root starts.now ends.now narrow.now wide.now) × Level (net_at profile nodes root starts.now ends.now narrow.now wide.now) × Fitted profile (table_at nodes root starts.now ends.now narrow.now wide.now) changed.now (arrays dist.old parent.old first.old) }
+    ensures { Regrown profile (table_at nodes root starts.now ends.now narrow.now wide.now) parent.old (arrays dist.new parent.new first.new) }
 {
     let at = heads::first_links(starts);
     let mut asked = [NO_LINK; 256];
@@ -203,8 +202,8 @@ fn reseed_all(
     mins: &mut [u64; 72],
     found: &mut [u16; 256],
 )
-    requires { Proper (given_table nodes root starts ends narrow wide) × Level (given_net profile nodes root starts ends narrow wide) × Heads starts.now at.now × Old profile (given_table nodes root starts ends narrow wide) (tree_at dist parent first) × (keys.old ≡ replicate 256 empty) × (mins.old ≡ replicate 72 empty) × (found.old ≡ replicate 256 no_link) × Kept (given_table nodes root starts ends narrow wide) asked.old }
-    ensures { Begun (lent_net profile nodes root starts ends narrow wide) (lent parent) (left dist) (left keys) (left mins) (left found) × (length (left first) ≡ most_nodes) × Kept (lent_table_at nodes root starts ends narrow wide) (left asked) }
+    requires { Proper (table_at nodes root starts.now ends.now narrow.now wide.now) × Level (net_at profile nodes root starts.now ends.now narrow.now wide.now) × Heads starts.now at.now × Old profile (table_at nodes root starts.now ends.now narrow.now wide.now) (arrays dist.old parent.now first.old) × (keys.old ≡ replicate 256 empty) × (mins.old ≡ replicate 72 empty) × (found.old ≡ replicate 256 no_link) × Kept (table_at nodes root starts.now ends.now narrow.now wide.now) asked.old }
+    ensures { Begun (net_at profile nodes root starts.now ends.now narrow.now wide.now) parent.now dist.new keys.new mins.new found.new × (length first.new ≡ most_nodes) × Kept (table_at nodes root starts.now ends.now narrow.now wide.now) asked.new }
 {
     lift::lift(
         profile, nodes, root, starts, ends, narrow, wide, at, parent, dist, first, keys, mins,
@@ -229,8 +228,8 @@ fn mend_level(
     parent: &mut [u16; 256],
     first: &mut [u16; 256],
 )
-    requires { Proper (given_table nodes root starts ends narrow wide) × Level (given_net profile nodes root starts ends narrow wide) × Old profile (given_table nodes root starts ends narrow wide) (tree_at dist parent first) }
-    ensures { Regrown profile (lent_table_at nodes root starts ends narrow wide) (lent parent) (left_tree dist parent first) }
+    requires { Proper (table_at nodes root starts.now ends.now narrow.now wide.now) × Level (net_at profile nodes root starts.now ends.now narrow.now wide.now) × Old profile (table_at nodes root starts.now ends.now narrow.now wide.now) (arrays dist.old parent.old first.old) }
+    ensures { Regrown profile (table_at nodes root starts.now ends.now narrow.now wide.now) parent.old (arrays dist.new parent.new first.new) }
 {
     let at = heads::first_links(starts);
     let mut asked = [NO_LINK; 256];
@@ -260,8 +259,8 @@ pub fn grow(
     parent: &mut [u16; 256],
     first: &mut [u16; 256],
 )
-    requires { Proper (given_table nodes root starts ends narrow wide) × Ample (given_net profile nodes root starts ends narrow wide) × Whole (tree_at dist parent first) }
-    ensures { Grown profile (lent_table_at nodes root starts ends narrow wide) (left_tree dist parent first) }
+    requires { Proper (table_at nodes root starts.now ends.now narrow.now wide.now) × Ample (net_at profile nodes root starts.now ends.now narrow.now wide.now) × Whole (arrays dist.old parent.old first.old) }
+    ensures { Grown profile (table_at nodes root starts.now ends.now narrow.now wide.now) (arrays dist.new parent.new first.new) }
 {
     let level = level::leveled(profile);
     grow_level(
@@ -284,8 +283,8 @@ pub fn regrow(
     parent: &mut [u16; 256],
     first: &mut [u16; 256],
 )
-    requires { Proper (given_table nodes root starts ends narrow wide) × Ample (given_net profile nodes root starts ends narrow wide) × Fitted profile (given_table nodes root starts ends narrow wide) changed.now (tree_at dist parent first) }
-    ensures { Regrown profile (lent_table_at nodes root starts ends narrow wide) (lent parent) (left_tree dist parent first) }
+    requires { Proper (table_at nodes root starts.now ends.now narrow.now wide.now) × Ample (net_at profile nodes root starts.now ends.now narrow.now wide.now) × Fitted profile (table_at nodes root starts.now ends.now narrow.now wide.now) changed.now (arrays dist.old parent.old first.old) }
+    ensures { Regrown profile (table_at nodes root starts.now ends.now narrow.now wide.now) parent.old (arrays dist.new parent.new first.new) }
 {
     let level = level::leveled(profile);
     regrow_level(
@@ -306,8 +305,8 @@ pub fn mend(
     parent: &mut [u16; 256],
     first: &mut [u16; 256],
 )
-    requires { Proper (given_table nodes root starts ends narrow wide) × Ample (given_net profile nodes root starts ends narrow wide) × Old profile (given_table nodes root starts ends narrow wide) (tree_at dist parent first) }
-    ensures { Regrown profile (lent_table_at nodes root starts ends narrow wide) (lent parent) (left_tree dist parent first) }
+    requires { Proper (table_at nodes root starts.now ends.now narrow.now wide.now) × Ample (net_at profile nodes root starts.now ends.now narrow.now wide.now) × Old profile (table_at nodes root starts.now ends.now narrow.now wide.now) (arrays dist.old parent.old first.old) }
+    ensures { Regrown profile (table_at nodes root starts.now ends.now narrow.now wide.now) parent.old (arrays dist.new parent.new first.new) }
 {
     let level = level::leveled(profile);
     mend_level(

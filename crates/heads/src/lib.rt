@@ -1,7 +1,6 @@
 // Where the links that leave each node begin.
 #![tactic(auto)]
 
-ghost use Rattle.rules.specs.Lent.{lent};
 ghost use Rattle.basics.specs.Leaving.{Leaving};
 ghost use Rattle.heads.specs.Heads.{Heads};
 
@@ -9,7 +8,7 @@ ghost use Rattle.heads.specs.Heads.{Heads};
 // link's.
 pub fn first_links(starts: &[u16]) -> [u16; 256]
     requires { Leaving starts.now }
-    ensures { Heads (lent starts) result }
+    ensures { Heads starts.now result }
 {
     let mut k = starts.len();
     let mut at = [k as u16; 256];

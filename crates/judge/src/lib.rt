@@ -3,8 +3,7 @@
 
 ghost use Rattle.std.specs.Prelude.{◌≡◌, ◌<◌, eqb, length, get_or};
 ghost use Rattle.rules.specs.Answers.{told};
-ghost use Rattle.rules.specs.Columns.{Whole, unreached};
-ghost use Rattle.rules.specs.Lent.{lent, lent_table, lent_tree};
+ghost use Rattle.rules.specs.Columns.{Whole, unreached, table, arrays};
 ghost use Rattle.rules.specs.Refusals.{judge_update, judge_asked};
 ghost use Rattle.batch.specs.Rows.{rows_of_columns};
 
@@ -24,8 +23,8 @@ pub fn judge_update<'a>(
     newcosts: &[u16],
     list: &[u16],
 ) -> Answer
-    ensures judged { told result ≡ judge_update (lent_table nodes root starts ends costs) (lent_tree dist parent first) (rows_of_columns (lent changed) (lent newcosts)) (lent list) }
-    ensures whole { Whole (lent_tree dist parent first) }
+    ensures judged { told result ≡ judge_update (table nodes root starts.now ends.now costs.now) (arrays dist.now parent.now first.now) (rows_of_columns changed.now newcosts.now) list.now }
+    ensures whole { Whole (arrays dist.now parent.now first.now) }
 {
     let tree = fit::judge_lent(nodes, root, starts, ends, costs, dist, parent, first);
     if rules::number(tree) != 0 {
@@ -43,7 +42,7 @@ pub fn judge_update<'a>(
 
 fn is_unreached(dist: &[u32], node: usize) -> bool
     requires { node < length dist.now }
-    ensures { result ≡ eqb (get_or (lent dist) node 0) unreached }
+    ensures { result ≡ eqb (get_or dist.now node 0) unreached }
 {
     dist[node] == UNREACHED
 }
@@ -60,8 +59,8 @@ pub fn judge_asked<'a>(
     first: &'a [u16; 256],
     node: usize,
 ) -> Answer
-    ensures judged { told result ≡ judge_asked (lent_table nodes root starts ends costs) (lent_tree dist parent first) node }
-    ensures whole { Whole (lent_tree dist parent first) }
+    ensures judged { told result ≡ judge_asked (table nodes root starts.now ends.now costs.now) (arrays dist.now parent.now first.now) node }
+    ensures whole { Whole (arrays dist.now parent.now first.now) }
 {
     let answer = fit::judge_lent(nodes, root, starts, ends, costs, dist, parent, first);
     if rules::number(answer) != 0 {

@@ -3,9 +3,8 @@
 
 ghost use Rattle.std.specs.Prelude.{◌≡◌, ◌<◌, length, get_or};
 ghost use Rattle.rules.specs.Columns.{Proper, most_nodes};
-ghost use Rattle.rules.specs.Lent.{lent, left};
 ghost use Rattle.basics.specs.Tells.{Tells};
-ghost use Rattle.usable.specs.Standing.{given_table, given_net, lent_net, lent_dist};
+ghost use Rattle.usable.specs.Standing.{table_at, net_at, dist_in};
 ghost use Rattle.heads.specs.Heads.{Heads};
 ghost use Rattle.keep.specs.Kept.{Exact, Holds, Kept, AllKept, StandsBy, StandingLinks};
 
@@ -44,8 +43,8 @@ fn holds(
     v: usize,
     old: u16,
 ) -> bool
-    requires { Proper (given_table nodes root starts ends narrow wide) × (length dist.now ≡ most_nodes) × (v < most_nodes) × Heads starts.now at.now }
-    ensures { Tells (Holds (lent_net profile nodes root starts ends narrow wide) (lent_dist profile dist) v old) result }
+    requires { Proper (table_at nodes root starts.now ends.now narrow.now wide.now) × (length dist.now ≡ most_nodes) × (v < most_nodes) × Heads starts.now at.now }
+    ensures { Tells (Holds (net_at profile nodes root starts.now ends.now narrow.now wide.now) (dist_in profile dist.now) v old) result }
 {
     let k = old as usize;
     if starts.len() <= k {
@@ -78,8 +77,8 @@ fn kept(
     old: u16,
     found: u16,
 ) -> u16
-    requires { Proper (given_table nodes root starts ends narrow wide) × (length dist.now ≡ most_nodes) × (v < most_nodes) × Heads starts.now at.now × StandsBy (given_net profile nodes root starts ends narrow wide) (λ u. get_or dist.now u profile.mark) v old found }
-    ensures { Kept (Holds (lent_net profile nodes root starts ends narrow wide) (lent_dist profile dist) v) old found result }
+    requires { Proper (table_at nodes root starts.now ends.now narrow.now wide.now) × (length dist.now ≡ most_nodes) × (v < most_nodes) × Heads starts.now at.now × StandsBy (net_at profile nodes root starts.now ends.now narrow.now wide.now) (λ u. get_or dist.now u profile.mark) v old found }
+    ensures { Kept (Holds (net_at profile nodes root starts.now ends.now narrow.now wide.now) (dist_in profile dist.now) v) old found result }
 {
     if found == NO_LINK {
         if dist[v] == profile.mark {
@@ -108,8 +107,8 @@ pub fn keep_tight(
     found: &[u16; 256],
     parent: &mut [u16; 256],
 )
-    requires { Proper (given_table nodes root starts ends narrow wide) × (length dist.now ≡ most_nodes) × (length found.now ≡ most_nodes) × (length parent.old ≡ most_nodes) × Heads starts.now at.now × StandingLinks (given_net profile nodes root starts ends narrow wide) (λ u. get_or dist.now u profile.mark) found.now parent.old }
-    ensures { AllKept (lent_net profile nodes root starts ends narrow wide) (lent_dist profile dist) (lent found) (lent parent) (left parent) }
+    requires { Proper (table_at nodes root starts.now ends.now narrow.now wide.now) × (length dist.now ≡ most_nodes) × (length found.now ≡ most_nodes) × (length parent.old ≡ most_nodes) × Heads starts.now at.now × StandingLinks (net_at profile nodes root starts.now ends.now narrow.now wide.now) (λ u. get_or dist.now u profile.mark) found.now parent.old }
+    ensures { AllKept (net_at profile nodes root starts.now ends.now narrow.now wide.now) (dist_in profile dist.now) found.now parent.old parent.new }
 {
     let mut v: usize = 0;
     while v < NODES {

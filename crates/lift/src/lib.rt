@@ -4,8 +4,7 @@
 
 ghost use Rattle.std.specs.Prelude.{◌≡◌, ◌≢◌, ◌<◌, length, get_or};
 ghost use Rattle.rules.specs.Columns.{Proper, most_nodes, no_link};
-ghost use Rattle.rules.specs.Lent.{lent, left};
-ghost use Rattle.usable.specs.Standing.{given_table, given_net, lent_net};
+ghost use Rattle.usable.specs.Standing.{table_at, net_at};
 ghost use Rattle.heads.specs.Heads.{Head, Heads};
 ghost use Rattle.basics.specs.Tells.{Tells};
 ghost use Rattle.offer.specs.Offer.{Lined};
@@ -30,8 +29,8 @@ fn note_if_loose(
     keys: &mut [u64; 256],
     mins: &mut [u64; 72],
 )
-    requires { Proper (given_table nodes root starts ends narrow wide) × Heads starts.now at.now × Rooted (given_net profile nodes root starts ends narrow wide) parent.now × Lined profile.mark dist.now keys.old mins.old × (v < most_nodes) × (v ≢ root) }
-    ensures { Noted (lent_net profile nodes root starts ends narrow wide) (lent parent) (lent dist) (lent keys) (λ u. u ≡ v) (left keys) (left mins) }
+    requires { Proper (table_at nodes root starts.now ends.now narrow.now wide.now) × Heads starts.now at.now × Rooted (net_at profile nodes root starts.now ends.now narrow.now wide.now) parent.now × Lined profile.mark dist.now keys.old mins.old × (v < most_nodes) × (v ≢ root) }
+    ensures { Noted (net_at profile nodes root starts.now ends.now narrow.now wide.now) parent.now dist.now keys.old (λ u. u ≡ v) keys.new mins.new }
 {
     if !carries::carries(
         profile, nodes, root, starts, ends, narrow, wide, at, parent[v], v, dist,
@@ -55,8 +54,8 @@ fn note_loose(
     keys: &mut [u64; 256],
     mins: &mut [u64; 72],
 )
-    requires { Proper (given_table nodes root starts ends narrow wide) × Heads starts.now at.now × Rooted (given_net profile nodes root starts ends narrow wide) parent.now × Liftable (given_net profile nodes root starts ends narrow wide) dist.now keys.old mins.old }
-    ensures { AllStand (lent_net profile nodes root starts ends narrow wide) (lent parent) (lent dist) (left keys) (left mins) }
+    requires { Proper (table_at nodes root starts.now ends.now narrow.now wide.now) × Heads starts.now at.now × Rooted (net_at profile nodes root starts.now ends.now narrow.now wide.now) parent.now × Liftable (net_at profile nodes root starts.now ends.now narrow.now wide.now) dist.now keys.old mins.old }
+    ensures { AllStand (net_at profile nodes root starts.now ends.now narrow.now wide.now) parent.now dist.now keys.new mins.new }
 {
     let mut v: usize = 0;
     while v < 256 {
@@ -72,7 +71,7 @@ fn note_loose(
 
 // The link, which may be any number, leaves node u.
 fn leaves(starts: &[u16], link: u16, u: u16) -> bool
-    ensures { Tells (Leaves (lent starts) link u) result }
+    ensures { Tells (Leaves starts.now link u) result }
 {
     let k = link as usize;
     if starts.len() <= k {
@@ -100,8 +99,8 @@ fn note_end(
     keys: &mut [u64; 256],
     mins: &mut [u64; 72],
 )
-    requires { Proper (given_table nodes root starts ends narrow wide) × Heads starts.now at.now × Parents (given_net profile nodes root starts ends narrow wide) parent.now × Lined profile.mark dist.now keys.old mins.old × (link < length starts.now) }
-    ensures { Noted (lent_net profile nodes root starts ends narrow wide) (lent parent) (lent dist) (lent keys) (λ u. link ≡ get_or (lent parent) u no_link) (left keys) (left mins) }
+    requires { Proper (table_at nodes root starts.now ends.now narrow.now wide.now) × Heads starts.now at.now × Parents (net_at profile nodes root starts.now ends.now narrow.now wide.now) parent.now × Lined profile.mark dist.now keys.old mins.old × (link < length starts.now) }
+    ensures { Noted (net_at profile nodes root starts.now ends.now narrow.now wide.now) parent.now dist.now keys.old (λ u. link ≡ get_or parent.now u no_link) keys.new mins.new }
 {
     let end = ends[link as usize] as usize;
     if parent[end] == link {
@@ -127,8 +126,8 @@ fn note_start(
     keys: &mut [u64; 256],
     mins: &mut [u64; 72],
 )
-    requires { Proper (given_table nodes root starts ends narrow wide) × Heads starts.now at.now × Parents (given_net profile nodes root starts ends narrow wide) parent.now × Lined profile.mark dist.now keys.old mins.old × (link < length starts.now) }
-    ensures { Noted (lent_net profile nodes root starts ends narrow wide) (lent parent) (lent dist) (lent keys) (λ u. Back (lent_net profile nodes root starts ends narrow wide) link (get_or (lent parent) u no_link)) (left keys) (left mins) }
+    requires { Proper (table_at nodes root starts.now ends.now narrow.now wide.now) × Heads starts.now at.now × Parents (net_at profile nodes root starts.now ends.now narrow.now wide.now) parent.now × Lined profile.mark dist.now keys.old mins.old × (link < length starts.now) }
+    ensures { Noted (net_at profile nodes root starts.now ends.now narrow.now wide.now) parent.now dist.now keys.old (λ u. Back (net_at profile nodes root starts.now ends.now narrow.now wide.now) link (get_or parent.now u no_link)) keys.new mins.new }
 {
     let k = link as usize;
     let start = starts[k] as usize;
@@ -155,8 +154,8 @@ fn note_rows(
     keys: &mut [u64; 256],
     mins: &mut [u64; 72],
 )
-    requires { Proper (given_table nodes root starts ends narrow wide) × Heads starts.now at.now × Parents (given_net profile nodes root starts ends narrow wide) parent.now × Naming (length starts.now) changed.now × StandApart (given_net profile nodes root starts ends narrow wide) parent.now changed.now 0 dist.now keys.old mins.old }
-    ensures { AllStand (lent_net profile nodes root starts ends narrow wide) (lent parent) (lent dist) (left keys) (left mins) }
+    requires { Proper (table_at nodes root starts.now ends.now narrow.now wide.now) × Heads starts.now at.now × Parents (net_at profile nodes root starts.now ends.now narrow.now wide.now) parent.now × Naming (length starts.now) changed.now × StandApart (net_at profile nodes root starts.now ends.now narrow.now wide.now) parent.now changed.now 0 dist.now keys.old mins.old }
+    ensures { AllStand (net_at profile nodes root starts.now ends.now narrow.now wide.now) parent.now dist.now keys.new mins.new }
 {
     let mut i: usize = 0;
     while i < changed.len() {
@@ -188,8 +187,8 @@ fn note_hung_on(
     keys: &mut [u64; 256],
     mins: &mut [u64; 72],
 )
-    requires { Proper (given_table nodes root starts ends narrow wide) × Rooted (given_net profile nodes root starts ends narrow wide) parent.now × Head (length starts.now) (λ k. get_or starts.now k 0) u first × StandBut (given_net profile nodes root starts ends narrow wide) parent.now u dist.now keys.old mins.old }
-    ensures { AllStand (lent_net profile nodes root starts ends narrow wide) (lent parent) (lent dist) (left keys) (left mins) }
+    requires { Proper (table_at nodes root starts.now ends.now narrow.now wide.now) × Rooted (net_at profile nodes root starts.now ends.now narrow.now wide.now) parent.now × Head (length starts.now) (λ k. get_or starts.now k 0) u first × StandBut (net_at profile nodes root starts.now ends.now narrow.now wide.now) parent.now u dist.now keys.old mins.old }
+    ensures { AllStand (net_at profile nodes root starts.now ends.now narrow.now wide.now) parent.now dist.now keys.new mins.new }
 {
     let mut k = first as usize;
     while k < starts.len() {
@@ -222,8 +221,8 @@ fn lift_noted(
     keys: &mut [u64; 256],
     mins: &mut [u64; 72],
 )
-    requires { Proper (given_table nodes root starts ends narrow wide) × Heads starts.now at.now × Rooted (given_net profile nodes root starts ends narrow wide) parent.now × AllStand (given_net profile nodes root starts ends narrow wide) parent.now dist.old keys.old mins.old × (length first.old ≡ most_nodes) }
-    ensures { Lifted (lent_net profile nodes root starts ends narrow wide) (lent parent) (left dist) (left keys) (left mins) × Fates (lent_net profile nodes root starts ends narrow wide) (lent dist) (left dist) (left first) }
+    requires { Proper (table_at nodes root starts.now ends.now narrow.now wide.now) × Heads starts.now at.now × Rooted (net_at profile nodes root starts.now ends.now narrow.now wide.now) parent.now × AllStand (net_at profile nodes root starts.now ends.now narrow.now wide.now) parent.now dist.old keys.old mins.old × (length first.old ≡ most_nodes) }
+    ensures { Lifted (net_at profile nodes root starts.now ends.now narrow.now wide.now) parent.now dist.new keys.new mins.new × Fates (net_at profile nodes root starts.now ends.now narrow.now wide.now) dist.old dist.new first.new }
 {
     let mut key = queue::least(mins);
     while key != queue::EMPTY {
@@ -255,8 +254,8 @@ pub fn lift(
     keys: &mut [u64; 256],
     mins: &mut [u64; 72],
 )
-    requires { Proper (given_table nodes root starts ends narrow wide) × Heads starts.now at.now × Rooted (given_net profile nodes root starts ends narrow wide) parent.now × Liftable (given_net profile nodes root starts ends narrow wide) dist.old keys.old mins.old × (length first.old ≡ most_nodes) }
-    ensures { Lifted (lent_net profile nodes root starts ends narrow wide) (lent parent) (left dist) (left keys) (left mins) }
+    requires { Proper (table_at nodes root starts.now ends.now narrow.now wide.now) × Heads starts.now at.now × Rooted (net_at profile nodes root starts.now ends.now narrow.now wide.now) parent.now × Liftable (net_at profile nodes root starts.now ends.now narrow.now wide.now) dist.old keys.old mins.old × (length first.old ≡ most_nodes) }
+    ensures { Lifted (net_at profile nodes root starts.now ends.now narrow.now wide.now) parent.now dist.new keys.new mins.new }
 {
     note_loose(
         profile, nodes, root, starts, ends, narrow, wide, at, parent, dist, keys, mins,
@@ -284,8 +283,8 @@ pub fn lift_rows(
     keys: &mut [u64; 256],
     mins: &mut [u64; 72],
 ) -> bool
-    requires { Proper (given_table nodes root starts ends narrow wide) × Heads starts.now at.now × Parents (given_net profile nodes root starts ends narrow wide) parent.now × Naming (length starts.now) changed.now × StandApart (given_net profile nodes root starts ends narrow wide) parent.now changed.now 0 dist.old keys.old mins.old × (length first.old ≡ most_nodes) }
-    ensures { Lifted (lent_net profile nodes root starts ends narrow wide) (lent parent) (left dist) (left keys) (left mins) × LiftedRows (lent_net profile nodes root starts ends narrow wide) (lent dist) (lent first) (left dist) (left first) result }
+    requires { Proper (table_at nodes root starts.now ends.now narrow.now wide.now) × Heads starts.now at.now × Parents (net_at profile nodes root starts.now ends.now narrow.now wide.now) parent.now × Naming (length starts.now) changed.now × StandApart (net_at profile nodes root starts.now ends.now narrow.now wide.now) parent.now changed.now 0 dist.old keys.old mins.old × (length first.old ≡ most_nodes) }
+    ensures { Lifted (net_at profile nodes root starts.now ends.now narrow.now wide.now) parent.now dist.new keys.new mins.new × LiftedRows (net_at profile nodes root starts.now ends.now narrow.now wide.now) dist.old first.old dist.new first.new result }
 {
     note_rows(
         profile, nodes, root, starts, ends, narrow, wide, changed, at, parent, dist, keys, mins,

@@ -3,14 +3,14 @@
 
 ghost use Rattle.std.specs.Prelude.{◌≡◌};
 ghost use Rattle.rules.specs.Answers.{told};
-ghost use Rattle.rules.specs.Lent.{lent_table};
 ghost use Rattle.rules.specs.Refusals.{judge_links};
+ghost use Rattle.rules.specs.Columns.{table};
 
 use rules::Answer;
 
 // The smallest refusal number that applies, or acceptance, whatever is given.
 pub fn judge_links(nodes: usize, root: usize, starts: &[u16], ends: &[u16], costs: &[u16]) -> Answer
-    ensures { told result ≡ judge_links (lent_table nodes root starts ends costs) }
+    ensures { told result ≡ judge_links (table nodes root starts.now ends.now costs.now) }
 {
     if nodes == 0 || 256 < nodes {
         return Answer::WrongNodeCount;

@@ -3,10 +3,9 @@
 
 ghost use Rattle.std.specs.Prelude.{◌≡◌, ◌≤◌, ◌<◌, length};
 ghost use Rattle.rules.specs.Columns.{Proper, most_nodes, no_ceiling};
-ghost use Rattle.rules.specs.Lent.{lent, left};
 ghost use Rattle.heads.specs.Heads.{Heads};
 ghost use Rattle.asked.specs.Asked.{Kept};
-ghost use Rattle.usable.specs.Standing.{given_table, lent_table_at, lent_net, lent_dist};
+ghost use Rattle.usable.specs.Standing.{table_at, net_at, dist_in};
 ghost use Rattle.offends.specs.Offends.{bar, Bars, Low, offers_by, offends_by, Calm, LeastOffended};
 
 use rules::Profile;
@@ -30,7 +29,7 @@ fn bar(mark: u32, ceiling: u64, dist: u32) -> u64
 // The same of every node, so that one comparison tells of a link what its ends' distances mean.
 fn bars(mark: u32, ceiling: u64, dist: &[u32]) -> [u64; 256]
     requires { length dist.now ≡ most_nodes }
-    ensures { Bars mark ceiling (lent dist) most_nodes result }
+    ensures { Bars mark ceiling dist.now most_nodes result }
 {
     let mut bars = [0u64; 256];
     let mut v: usize = 0;
@@ -52,8 +51,8 @@ fn link_offers(
     bars: &[u64; 256],
     k: usize,
 ) -> bool
-    requires { Proper (given_table nodes root starts ends narrow wide) × (k < length starts.now) × Low bars.now }
-    ensures { result ≡ offers_by (lent_table_at nodes root starts ends narrow wide) (lent bars) k }
+    requires { Proper (table_at nodes root starts.now ends.now narrow.now wide.now) × (k < length starts.now) × Low bars.now }
+    ensures { result ≡ offers_by (table_at nodes root starts.now ends.now narrow.now wide.now) bars.now k }
 {
     let from = starts[k] as usize;
     let to = ends[k] as usize;
@@ -75,8 +74,8 @@ fn link_offends(
     asked: &mut [u16; 256],
     k: usize,
 ) -> bool
-    requires { Proper (given_table nodes root starts ends narrow wide) × (k < length starts.now) × Low bars.now × Heads starts.now at.now × Kept (given_table nodes root starts ends narrow wide) asked.old }
-    ensures { (result ≡ offends_by (lent_net profile nodes root starts ends narrow wide) (lent bars) k) × Kept (lent_table_at nodes root starts ends narrow wide) (left asked) }
+    requires { Proper (table_at nodes root starts.now ends.now narrow.now wide.now) × (k < length starts.now) × Low bars.now × Heads starts.now at.now × Kept (table_at nodes root starts.now ends.now narrow.now wide.now) asked.old }
+    ensures { (result ≡ offends_by (net_at profile nodes root starts.now ends.now narrow.now wide.now) bars.now k) × Kept (table_at nodes root starts.now ends.now narrow.now wide.now) asked.new }
 {
     if link_offers(nodes, root, starts, ends, narrow, wide, bars, k) {
         return asked::usable(
@@ -97,8 +96,8 @@ fn first_offering(
     wide: &[u32],
     bars: &[u64; 256],
 ) -> usize
-    requires { Proper (given_table nodes root starts ends narrow wide) × Low bars.now }
-    ensures { Calm (lent_table_at nodes root starts ends narrow wide) (lent bars) result }
+    requires { Proper (table_at nodes root starts.now ends.now narrow.now wide.now) × Low bars.now }
+    ensures { Calm (table_at nodes root starts.now ends.now narrow.now wide.now) bars.now result }
 {
     let mut k: usize = 0;
     while k < starts.len() {
@@ -124,8 +123,8 @@ pub fn least_offended(
     wide: &[u32],
     dist: &[u32],
 ) -> usize
-    requires { Proper (given_table nodes root starts ends narrow wide) × (length dist.now ≡ most_nodes) × (profile.ceiling ≤ no_ceiling) }
-    ensures { LeastOffended (lent_net profile nodes root starts ends narrow wide) (lent_dist profile dist) (length (lent starts)) result }
+    requires { Proper (table_at nodes root starts.now ends.now narrow.now wide.now) × (length dist.now ≡ most_nodes) × (profile.ceiling ≤ no_ceiling) }
+    ensures { LeastOffended (net_at profile nodes root starts.now ends.now narrow.now wide.now) (dist_in profile dist.now) (length starts.now) result }
 {
     let bars = bars(profile.mark, profile.ceiling, dist);
     let mut k = first_offering(nodes, root, starts, ends, narrow, wide, &bars);

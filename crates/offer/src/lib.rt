@@ -5,8 +5,7 @@
 
 ghost use Rattle.std.specs.Prelude.{◌≡◌, ◌<◌, length, set, replicate};
 ghost use Rattle.rules.specs.Columns.{Proper, most_nodes};
-ghost use Rattle.rules.specs.Lent.{lent, left};
-ghost use Rattle.usable.specs.Standing.{given_table, lent_table_at, lent_net};
+ghost use Rattle.usable.specs.Standing.{table_at, net_at};
 ghost use Rattle.heads.specs.Heads.{Heads};
 ghost use Rattle.asked.specs.Asked.{Kept};
 ghost use Rattle.queue.specs.Queue.{empty, key_of, Rekeyed};
@@ -33,8 +32,8 @@ fn offer_less(
     mins: &mut [u64; 72],
     found: &mut [u16; 256],
 )
-    requires { Proper (given_table nodes root starts ends narrow wide) × (link < length starts.now) × Lined profile.mark dist.old keys.old mins.old × (length found.old ≡ most_nodes) × Heads starts.now at.now × Kept (given_table nodes root starts ends narrow wide) asked.old }
-    ensures { Lined profile.mark (left dist) (left keys) (left mins) × (length (left found) ≡ most_nodes) × Offered (lent_net profile nodes root starts ends narrow wide) link sum (lent dist) (lent keys) (left dist) (left keys) × Noted (lent_net profile nodes root starts ends narrow wide) link sum (lent dist) (lent found) (left found) × Kept (lent_table_at nodes root starts ends narrow wide) (left asked) }
+    requires { Proper (table_at nodes root starts.now ends.now narrow.now wide.now) × (link < length starts.now) × Lined profile.mark dist.old keys.old mins.old × (length found.old ≡ most_nodes) × Heads starts.now at.now × Kept (table_at nodes root starts.now ends.now narrow.now wide.now) asked.old }
+    ensures { Lined profile.mark dist.new keys.new mins.new × (length found.new ≡ most_nodes) × Offered (net_at profile nodes root starts.now ends.now narrow.now wide.now) link sum dist.old keys.old dist.new keys.new × Noted (net_at profile nodes root starts.now ends.now narrow.now wide.now) link sum dist.old found.old found.new × Kept (table_at nodes root starts.now ends.now narrow.now wide.now) asked.new }
 {
     let k = link as usize;
     let node = ends[k] as usize;
@@ -68,8 +67,8 @@ fn heed(
     mins: &mut [u64; 72],
     found: &mut [u16; 256],
 )
-    requires { Proper (given_table nodes root starts ends narrow wide) × (link < length starts.now) × Lined profile.mark dist.old keys.old mins.old × (length found.old ≡ most_nodes) × Heads starts.now at.now × Kept (given_table nodes root starts ends narrow wide) asked.old }
-    ensures { Lined profile.mark (left dist) (left keys) (left mins) × (length (left found) ≡ most_nodes) × Offered (lent_net profile nodes root starts ends narrow wide) link sum (lent dist) (lent keys) (left dist) (left keys) × Noted (lent_net profile nodes root starts ends narrow wide) link sum (lent dist) (lent found) (left found) × Lowered (lent_net profile nodes root starts ends narrow wide) link sum (lent dist) (left found) × Kept (lent_table_at nodes root starts ends narrow wide) (left asked) }
+    requires { Proper (table_at nodes root starts.now ends.now narrow.now wide.now) × (link < length starts.now) × Lined profile.mark dist.old keys.old mins.old × (length found.old ≡ most_nodes) × Heads starts.now at.now × Kept (table_at nodes root starts.now ends.now narrow.now wide.now) asked.old }
+    ensures { Lined profile.mark dist.new keys.new mins.new × (length found.new ≡ most_nodes) × Offered (net_at profile nodes root starts.now ends.now narrow.now wide.now) link sum dist.old keys.old dist.new keys.new × Noted (net_at profile nodes root starts.now ends.now narrow.now wide.now) link sum dist.old found.old found.new × Lowered (net_at profile nodes root starts.now ends.now narrow.now wide.now) link sum dist.old found.new × Kept (table_at nodes root starts.now ends.now narrow.now wide.now) asked.new }
 {
     let k = link as usize;
     let node = ends[k] as usize;
@@ -109,8 +108,8 @@ pub fn offer(
     mins: &mut [u64; 72],
     found: &mut [u16; 256],
 )
-    requires { Proper (given_table nodes root starts ends narrow wide) × (link < length starts.now) × Lined profile.mark dist.old keys.old mins.old × (length found.old ≡ most_nodes) × Heads starts.now at.now × Kept (given_table nodes root starts ends narrow wide) asked.old }
-    ensures { Lined profile.mark (left dist) (left keys) (left mins) × (length (left found) ≡ most_nodes) × Offered (lent_net profile nodes root starts ends narrow wide) link sum (lent dist) (lent keys) (left dist) (left keys) × Noted (lent_net profile nodes root starts ends narrow wide) link sum (lent dist) (lent found) (left found) × Lowered (lent_net profile nodes root starts ends narrow wide) link sum (lent dist) (left found) × Kept (lent_table_at nodes root starts ends narrow wide) (left asked) }
+    requires { Proper (table_at nodes root starts.now ends.now narrow.now wide.now) × (link < length starts.now) × Lined profile.mark dist.old keys.old mins.old × (length found.old ≡ most_nodes) × Heads starts.now at.now × Kept (table_at nodes root starts.now ends.now narrow.now wide.now) asked.old }
+    ensures { Lined profile.mark dist.new keys.new mins.new × (length found.new ≡ most_nodes) × Offered (net_at profile nodes root starts.now ends.now narrow.now wide.now) link sum dist.old keys.old dist.new keys.new × Noted (net_at profile nodes root starts.now ends.now narrow.now wide.now) link sum dist.old found.old found.new × Lowered (net_at profile nodes root starts.now ends.now narrow.now wide.now) link sum dist.old found.new × Kept (table_at nodes root starts.now ends.now narrow.now wide.now) asked.new }
 {
     let k = link as usize;
     let node = ends[k] as usize;
@@ -141,8 +140,8 @@ pub fn offer_link(
     mins: &mut [u64; 72],
     found: &mut [u16; 256],
 )
-    requires { Proper (given_table nodes root starts ends narrow wide) × (link < length starts.now) × Lined profile.mark dist.old keys.old mins.old × (length found.old ≡ most_nodes) × Heads starts.now at.now × Kept (given_table nodes root starts ends narrow wide) asked.old }
-    ensures { Lined profile.mark (left dist) (left keys) (left mins) × (length (left found) ≡ most_nodes) × Told (lent_net profile nodes root starts ends narrow wide) link (lent dist) (lent keys) (lent found) (left dist) (left keys) (left found) × Kept (lent_table_at nodes root starts ends narrow wide) (left asked) }
+    requires { Proper (table_at nodes root starts.now ends.now narrow.now wide.now) × (link < length starts.now) × Lined profile.mark dist.old keys.old mins.old × (length found.old ≡ most_nodes) × Heads starts.now at.now × Kept (table_at nodes root starts.now ends.now narrow.now wide.now) asked.old }
+    ensures { Lined profile.mark dist.new keys.new mins.new × (length found.new ≡ most_nodes) × Told (net_at profile nodes root starts.now ends.now narrow.now wide.now) link dist.old keys.old found.old dist.new keys.new found.new × Kept (table_at nodes root starts.now ends.now narrow.now wide.now) asked.new }
 {
     let k = link as usize;
     let start = starts[k] as usize;
@@ -159,7 +158,7 @@ pub fn offer_link(
 // The root's distance is 0, and it waits.
 pub fn seed(root: usize, dist: &mut [u32; 256], keys: &mut [u64; 256], mins: &mut [u64; 72])
     requires { (root < 256) × (length dist.old ≡ most_nodes) × (keys.old ≡ replicate 256 empty) × (mins.old ≡ replicate 72 empty) }
-    ensures { (left dist ≡ set (lent dist) root 0) × Rekeyed (lent keys) root (key_of 0 root) (left keys) (left mins) }
+    ensures { (dist.new ≡ set dist.old root 0) × Rekeyed keys.old root (key_of 0 root) keys.new mins.new }
 {
     dist[root] = 0;
     queue::put(keys, mins, root, 0);

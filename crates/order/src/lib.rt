@@ -7,7 +7,7 @@ ghost use Rattle.order.specs.Order.{is_unread, is_linking, in_order};
 use stream::Item;
 
 // NETWORK comes first; then LINKs; then, from the first other record on, no more of these.
-#[derive(Drop)]
+#[derive(Clone, Copy)]
 pub enum Phase {
     Unread,
     Linking,

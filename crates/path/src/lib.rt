@@ -3,7 +3,6 @@
 
 ghost use Rattle.std.specs.Prelude.{◌≡◌, ◌≤◌, ◌<◌, length, get_or};
 ghost use Rattle.rules.specs.Columns.{most_nodes};
-ghost use Rattle.rules.specs.Lent.{lent, left};
 ghost use Rattle.rules.specs.Jobs.{written};
 ghost use Rattle.path.specs.Climb.{parents, Climbable, Counted, FilledFrom, Traces};
 
@@ -17,7 +16,7 @@ pub enum Traced {
 // The node that a link starts at.
 fn start_of(starts: &&[u16], link: u16) -> usize
     requires { link < length starts.now.now }
-    ensures { result ≡ get_or (lent starts).now link 0 }
+    ensures { result ≡ get_or starts.now.now link 0 }
 {
     let column = *starts;
     let place = link as usize;
@@ -34,7 +33,7 @@ fn depth<'a, 's>(
     parent: &'a [u16; 256],
 ) -> usize
     requires { Climbable (parents root starts.now.now dist.now parent.now) node below }
-    ensures { Counted (parents root (lent starts).now (lent dist) (lent parent)) node below result }
+    ensures { Counted (parents root starts.now.now dist.now parent.now) node below result }
 {
     if node == root {
         return below;
@@ -55,7 +54,7 @@ fn fill<'a, 's>(
     links: &mut [u16; 256],
 )
     requires { (node < most_nodes) × Counted (parents root starts.now.now dist.now parent.now) node 0 n × (length links.old ≡ most_nodes) }
-    ensures { FilledFrom (parents root (lent starts).now (lent dist) (lent parent)) node n (lent links) (left links) }
+    ensures { FilledFrom (parents root starts.now.now dist.now parent.now) node n links.old links.new }
 {
     if node != root {
         let link = parent[node];
@@ -69,7 +68,7 @@ fn fill<'a, 's>(
 // Writes all of `front` at the front of the list.
 fn copy_front(front: &[u16], list: &mut [u16])
     requires { length front.now ≤ length list.old }
-    ensures { left list ≡ written (lent front) (lent list) }
+    ensures { list.new ≡ written front.now list.old }
 {
     let mut i: usize = 0;
     while i < front.len() {
@@ -88,7 +87,7 @@ pub fn trace<'a>(
     list: &mut [u16],
 ) -> Traced
     requires { Climbable (parents root starts.now dist.now parent.now) node 0 }
-    ensures { Traces (parents root (lent starts) (lent dist) (lent parent)) node (lent list) result (left list) }
+    ensures { Traces (parents root starts.now dist.now parent.now) node list.old result list.new }
 {
     let n = depth(root, node, 0, &starts, dist, parent);
     if list.len() < n {

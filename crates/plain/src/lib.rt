@@ -4,7 +4,6 @@
 ghost use Rattle.std.specs.Prelude.{◌≡◌, [], ◌∷◌};
 ghost use Rattle.stream.specs.Records.{read_at};
 ghost use Rattle.rules.specs.Answers.{number_of, value_of, second_of};
-ghost use Rattle.rules.specs.Lent.{lent, left};
 ghost use Rattle.plain.specs.Readings.{HandedBack, parts_of};
 
 use rules::Answer;
@@ -12,7 +11,7 @@ use stream::Item;
 
 // The number, with both values written.
 pub fn tell(answer: Answer, values: &mut [u16; 2]) -> u16
-    ensures { (result ≡ number_of answer) × (left values ≡ value_of answer ∷ second_of answer ∷ []) }
+    ensures { (result ≡ number_of answer) × (values.new ≡ value_of answer ∷ second_of answer ∷ []) }
 {
     *values = [rules::value(answer), rules::second(answer)];
     rules::number(answer)
@@ -73,7 +72,7 @@ pub fn read(
     numbers: &mut [u32; 3],
     next: &mut usize,
 ) -> u16
-    ensures { HandedBack (read_at (lent bytes) place) result (left kind) (left numbers) (left next) }
+    ensures { HandedBack (read_at bytes.now place) result kind.new numbers.new next.new }
 {
     let read = stream::read_at(bytes, place);
     let item = read.item;

@@ -7,14 +7,14 @@ ghost use Rattle.reader.specs.Reading.{at_start, HandsOn};
 
 use stream::Item;
 
-#[derive(Drop)]
+#[derive(Clone, Copy)]
 pub struct Reader<'a> {
     pub stream: &'a [u8],
     pub place: usize,
 }
 
 // What the reader gives, and the reader moved on.
-#[derive(Drop)]
+#[derive(Clone, Copy)]
 pub struct Step<'a> {
     pub reader: Reader<'a>,
     pub item: Item,

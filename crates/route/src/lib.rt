@@ -3,7 +3,7 @@
 
 ghost use Rattle.rules.specs.Answers.{told};
 ghost use Rattle.rules.specs.Jobs.{Pathed};
-ghost use Rattle.rules.specs.Lent.{lent, left, lent_table, lent_tree};
+ghost use Rattle.rules.specs.Columns.{table, arrays};
 
 use path::Traced;
 use rules::Answer;
@@ -22,7 +22,7 @@ pub fn path<'a>(
     list: &mut [u16],
     count: &mut usize,
 ) -> Answer
-    ensures { Pathed (lent_table nodes root starts ends costs) (lent_tree dist parent first) node (lent list) (told result) (left list) (left count) }
+    ensures { Pathed (table nodes root starts.now ends.now costs.now) (arrays dist.now parent.now first.now) node list.old (told result) list.new count.new }
 {
     *count = 0;
     let answer = judge::judge_asked(nodes, root, starts, ends, costs, dist, parent, first, node);

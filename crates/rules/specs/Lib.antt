@@ -9,5 +9,4 @@ pub mod Refusals
 pub mod Applies
 pub mod Answers
 pub mod Jobs
-pub mod Lent
 pub mod Demands

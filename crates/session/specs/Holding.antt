@@ -1,9 +1,6 @@
 -- What holds between records. Assumes nothing.
 use Rattle.std.specs.Prelude.{◌≡◌, List, ℕ, ◌≤◌, length}
-use Rattle.std.specs.Borrow.{Bor}
-use denote.Triple.Both.{Both}
 use Rattle.rules.specs.Columns.{Whole, most_links, most_rows, most_nodes}
-use Rattle.rules.specs.Lent.{lent, left}
 use Rattle.rules.specs.Refusals.{accepted, judge_links, judge_tree, judge_rows}
 use Rattle.order.specs.declared.Phase.TheVariants.{Unread, Linking, Routing}
 use Rattle.tree.specs.Value.{arrays_of}
@@ -50,19 +47,6 @@ pub record Lists : Type 0 where
 abbrev pub lists : List ℕ → List ℕ → List ℕ → List ℕ → List ℕ → List ℕ → Lists
 lists starts ends costs changed newcosts list =
     record { starts = starts; ends = ends; costs = costs; changed = changed; newcosts = newcosts; list = list }
-
--- the six as a promise names them: those passed, those as they stood when the call began, and as they stand after it
-abbrev pub lists_at : Bor (List ℕ) → Bor (List ℕ) → Bor (List ℕ) → Bor (List ℕ) → Bor (List ℕ) → Bor (List ℕ) → Lists
-lists_at starts ends costs changed newcosts list = lists starts.now ends.now costs.now changed.now newcosts.now list.now
-
-module _ {A B C D E F : Type 0} where
-  abbrev pub lent_lists : Both (Bor (List ℕ)) A → Both (Bor (List ℕ)) B → Both (Bor (List ℕ)) C → Both (Bor (List ℕ)) D → Both (Bor (List ℕ)) E
-      → Both (Bor (List ℕ)) F → Lists
-  lent_lists starts ends costs changed newcosts list = lists (lent starts) (lent ends) (lent costs) (lent changed) (lent newcosts) (lent list)
-
-  abbrev pub left_lists : Both A (Bor (List ℕ)) → Both B (Bor (List ℕ)) → Both C (Bor (List ℕ)) → Both D (Bor (List ℕ)) → Both E (Bor (List ℕ))
-      → Both F (Bor (List ℕ)) → Lists
-  left_lists starts ends costs changed newcosts list = lists (left starts) (left ends) (left costs) (left changed) (left newcosts) (left list)
 
 abbrev pub table_in : State → Lists → Type 0
 table_in s k = TableStands s k.starts k.ends k.costs

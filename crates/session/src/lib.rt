@@ -4,10 +4,9 @@
 ghost use Rattle.std.specs.Prelude.{◌≡◌, false, [], ◌≤◌, length};
 ghost use Rattle.rules.specs.Columns.{table, most_links, most_rows};
 ghost use Rattle.rules.specs.Refusals.{judge_links};
-ghost use Rattle.rules.specs.Lent.{lent, left};
 ghost use Rattle.order.specs.Order.{is_unread};
 ghost use Rattle.state.specs.States.{networked};
-ghost use Rattle.session.specs.Holding.{Columns, TableStands, TreeStands, Lent, lists_at, lent_lists, left_lists, tree_in, Holds};
+ghost use Rattle.session.specs.Holding.{Columns, TableStands, TreeStands, Lent, tree_in, Holds, lists};
 ghost use Rattle.session.specs.Steps.{Begun, Applied, Ready, Stepped};
 ghost use Rattle.session.specs.Parts.{LinkTaken, RowTaken};
 
@@ -41,7 +40,7 @@ fn link(
     costs: &mut [u16],
 ) -> Done
     requires { (state.links ≤ most_links) × Columns starts.old ends.old costs.old }
-    ensures { LinkTaken state (lent starts) (lent ends) (lent costs) start end cost result (left starts) (left ends) (left costs) }
+    ensures { LinkTaken state starts.old ends.old costs.old start end cost result starts.new ends.new costs.new }
 {
     let answer = enter::enter_link(
         state.nodes,
@@ -63,7 +62,7 @@ fn link(
 // The first record after the LINKs: a fresh tree over the table that they made.
 fn begin(state: State, starts: &[u16], ends: &[u16], costs: &[u16]) -> State
     requires { TableStands state starts.now ends.now costs.now }
-    ensures { Begun state (lent starts) (lent ends) (lent costs) result }
+    ensures { Begun state starts.now ends.now costs.now result }
 {
     let links = state.links;
     let built = Tree::build(
@@ -80,7 +79,7 @@ fn begin(state: State, starts: &[u16], ends: &[u16], costs: &[u16]) -> State
 // CHANGE: refusals 7 to 9 of the rows that wait with this one as the last.
 fn change(state: State, link: u16, cost: u16, changed: &mut [u16], newcosts: &mut [u16]) -> Done
     requires { (state.rows ≤ most_rows) × (length changed.old ≡ most_rows) × (length newcosts.old ≡ most_rows) }
-    ensures { RowTaken state (lent changed) (lent newcosts) link cost result (left changed) (left newcosts) }
+    ensures { RowTaken state changed.old newcosts.old link cost result changed.new newcosts.new }
 {
     let answer = enter::enter_change(state.links, state.rows, link, cost, changed, newcosts);
     let number = rules::number(answer);
@@ -101,7 +100,7 @@ fn apply(
     list: &mut [u16],
 ) -> Done
     requires { TreeStands state starts.now ends.now costs.old changed.now newcosts.now × Lent changed.now newcosts.now list.old }
-    ensures { Applied state (lent starts) (lent ends) (lent costs) (lent changed) (lent newcosts) (lent list) result (left costs) (left list) }
+    ensures { Applied state starts.now ends.now costs.old changed.now newcosts.now list.old result costs.new list.new }
 {
     let links = state.links;
     let rows = state.rows;
@@ -130,8 +129,8 @@ fn ready(
     newcosts: &[u16],
     list: &[u16],
 ) -> State
-    requires { Holds state (lists_at starts ends costs changed newcosts list) × (is_unread state.phase ≡ false) }
-    ensures { Ready state (lent_lists starts ends costs changed newcosts list) result × tree_in result (lent_lists starts ends costs changed newcosts list) }
+    requires { Holds state (lists starts.now ends.now costs.now changed.now newcosts.now list.now) × (is_unread state.phase ≡ false) }
+    ensures { Ready state (lists starts.now ends.now costs.now changed.now newcosts.now list.now) result × tree_in result (lists starts.now ends.now costs.now changed.now newcosts.now list.now) }
 {
     let phase = state.phase;
     if order::is_linking(phase) {
@@ -151,8 +150,8 @@ pub fn step(
     newcosts: &mut [u16],
     list: &mut [u16],
 ) -> Done
-    requires { Holds state (lists_at starts ends costs changed newcosts list) }
-    ensures { Stepped state (lent_lists starts ends costs changed newcosts list) item result (left_lists starts ends costs changed newcosts list) }
+    requires { Holds state (lists starts.old ends.old costs.old changed.old newcosts.old list.old) }
+    ensures { Stepped state (lists starts.old ends.old costs.old changed.old newcosts.old list.old) item result (lists starts.new ends.new costs.new changed.new newcosts.new list.new) }
 {
     let phase = state.phase;
     if !order::in_order(phase, item) {

@@ -5,8 +5,7 @@
 
 ghost use Rattle.std.specs.Prelude.{◌≡◌, ◌+◌, ◌<◌, length};
 ghost use Rattle.rules.specs.Columns.{Proper, most_nodes};
-ghost use Rattle.rules.specs.Lent.{lent, left};
-ghost use Rattle.usable.specs.Standing.{given_table, given_net, lent_table_at, lent_net};
+ghost use Rattle.usable.specs.Standing.{table_at, net_at};
 ghost use Rattle.level.specs.Level.{Level};
 ghost use Rattle.heads.specs.Heads.{HeadIn, Heads};
 ghost use Rattle.asked.specs.Asked.{Kept};
@@ -33,8 +32,8 @@ fn offer_from(
     mins: &mut [u64; 72],
     found: &mut [u16; 256],
 )
-    requires { Proper (given_table nodes root starts ends narrow wide) × Taken (given_net profile nodes root starts ends narrow wide) u dist.old keys.old mins.old × HeadIn starts.now u first × (length found.old ≡ most_nodes) × Heads starts.now at.now × Kept (given_table nodes root starts ends narrow wide) asked.old }
-    ensures { Served (lent_net profile nodes root starts ends narrow wide) u (lent dist) (lent keys) (lent found) (left dist) (left keys) (left mins) (left found) × Kept (lent_table_at nodes root starts ends narrow wide) (left asked) }
+    requires { Proper (table_at nodes root starts.now ends.now narrow.now wide.now) × Taken (net_at profile nodes root starts.now ends.now narrow.now wide.now) u dist.old keys.old mins.old × HeadIn starts.now u first × (length found.old ≡ most_nodes) × Heads starts.now at.now × Kept (table_at nodes root starts.now ends.now narrow.now wide.now) asked.old }
+    ensures { Served (net_at profile nodes root starts.now ends.now narrow.now wide.now) u dist.old keys.old found.old dist.new keys.new mins.new found.new × Kept (table_at nodes root starts.now ends.now narrow.now wide.now) asked.new }
 {
     let near = dist[u] as u64;
     let mut k = first as usize;
@@ -69,8 +68,8 @@ pub fn settle(
     found: &mut [u16; 256],
     guesses: &mut [u16; 256],
 )
-    requires { Proper (given_table nodes root starts ends narrow wide) × Level (given_net profile nodes root starts ends narrow wide) × Heads starts.now at.now × Afoot (given_net profile nodes root starts ends narrow wide) dist.old keys.old mins.old × (length found.old ≡ most_nodes) × (length guesses.old ≡ most_nodes) × Kept (given_table nodes root starts ends narrow wide) asked.old }
-    ensures { Settled (lent_net profile nodes root starts ends narrow wide) (left dist) (left keys) (left mins) × Comes (lent_net profile nodes root starts ends narrow wide) (lent dist) (lent keys) (lent found) (left dist) (left found) × (length (left guesses) ≡ most_nodes) × Kept (lent_table_at nodes root starts ends narrow wide) (left asked) }
+    requires { Proper (table_at nodes root starts.now ends.now narrow.now wide.now) × Level (net_at profile nodes root starts.now ends.now narrow.now wide.now) × Heads starts.now at.now × Afoot (net_at profile nodes root starts.now ends.now narrow.now wide.now) dist.old keys.old mins.old × (length found.old ≡ most_nodes) × (length guesses.old ≡ most_nodes) × Kept (table_at nodes root starts.now ends.now narrow.now wide.now) asked.old }
+    ensures { Settled (net_at profile nodes root starts.now ends.now narrow.now wide.now) dist.new keys.new mins.new × Comes (net_at profile nodes root starts.now ends.now narrow.now wide.now) dist.old keys.old found.old dist.new found.new × (length guesses.new ≡ most_nodes) × Kept (table_at nodes root starts.now ends.now narrow.now wide.now) asked.new }
 {
     let mut key = queue::least(mins);
     while key != queue::EMPTY {
@@ -103,8 +102,8 @@ pub fn offer_into(
     mins: &mut [u64; 72],
     found: &mut [u16; 256],
 )
-    requires { Proper (given_table nodes root starts ends narrow wide) × Seeded (given_net profile nodes root starts ends narrow wide) dist.old keys.old mins.old × (length first.now ≡ most_nodes) × (length found.old ≡ most_nodes) × Heads starts.now at.now × Kept (given_table nodes root starts ends narrow wide) asked.old }
-    ensures { Heard (lent_net profile nodes root starts ends narrow wide) (Calm (lent_net profile nodes root starts ends narrow wide) (lent dist) (lent keys)) (lent dist) (lent keys) (lent found) (CalmOr (lent_net profile nodes root starts ends narrow wide) (lent dist) (lent keys) lifted (lent first)) (left dist) (left keys) (left mins) (left found) × Kept (lent_table_at nodes root starts ends narrow wide) (left asked) }
+    requires { Proper (table_at nodes root starts.now ends.now narrow.now wide.now) × Seeded (net_at profile nodes root starts.now ends.now narrow.now wide.now) dist.old keys.old mins.old × (length first.now ≡ most_nodes) × (length found.old ≡ most_nodes) × Heads starts.now at.now × Kept (table_at nodes root starts.now ends.now narrow.now wide.now) asked.old }
+    ensures { Heard (net_at profile nodes root starts.now ends.now narrow.now wide.now) (Calm (net_at profile nodes root starts.now ends.now narrow.now wide.now) dist.old keys.old) dist.old keys.old found.old (CalmOr (net_at profile nodes root starts.now ends.now narrow.now wide.now) dist.old keys.old lifted first.now) dist.new keys.new mins.new found.new × Kept (table_at nodes root starts.now ends.now narrow.now wide.now) asked.new }
 {
     if !lifted {
         return;
@@ -142,8 +141,8 @@ fn offer_row(
     mins: &mut [u64; 72],
     found: &mut [u16; 256],
 )
-    requires { Proper (given_table nodes root starts ends narrow wide) × Partly (given_net profile nodes root starts ends narrow wide) (Untouched (given_net profile nodes root starts ends narrow wide) changed.now i) dist.old keys.old mins.old × Naming (length starts.now) changed.now × (length found.old ≡ most_nodes) × Heads starts.now at.now × Kept (given_table nodes root starts ends narrow wide) asked.old × (i < length changed.now) }
-    ensures { Heard (lent_net profile nodes root starts ends narrow wide) (Untouched (lent_net profile nodes root starts ends narrow wide) (lent changed) i) (lent dist) (lent keys) (lent found) (Untouched (lent_net profile nodes root starts ends narrow wide) (lent changed) (i + 1)) (left dist) (left keys) (left mins) (left found) × Kept (lent_table_at nodes root starts ends narrow wide) (left asked) }
+    requires { Proper (table_at nodes root starts.now ends.now narrow.now wide.now) × Partly (net_at profile nodes root starts.now ends.now narrow.now wide.now) (Untouched (net_at profile nodes root starts.now ends.now narrow.now wide.now) changed.now i) dist.old keys.old mins.old × Naming (length starts.now) changed.now × (length found.old ≡ most_nodes) × Heads starts.now at.now × Kept (table_at nodes root starts.now ends.now narrow.now wide.now) asked.old × (i < length changed.now) }
+    ensures { Heard (net_at profile nodes root starts.now ends.now narrow.now wide.now) (Untouched (net_at profile nodes root starts.now ends.now narrow.now wide.now) changed.now i) dist.old keys.old found.old (Untouched (net_at profile nodes root starts.now ends.now narrow.now wide.now) changed.now (i + 1)) dist.new keys.new mins.new found.new × Kept (table_at nodes root starts.now ends.now narrow.now wide.now) asked.new }
 {
     let link = changed[i];
     let row = link as usize;
@@ -186,8 +185,8 @@ pub fn offer_rows(
     mins: &mut [u64; 72],
     found: &mut [u16; 256],
 )
-    requires { Proper (given_table nodes root starts ends narrow wide) × Partly (given_net profile nodes root starts ends narrow wide) (Untouched (given_net profile nodes root starts ends narrow wide) changed.now 0) dist.old keys.old mins.old × Naming (length starts.now) changed.now × (length found.old ≡ most_nodes) × Heads starts.now at.now × Kept (given_table nodes root starts ends narrow wide) asked.old }
-    ensures { Heard (lent_net profile nodes root starts ends narrow wide) (Untouched (lent_net profile nodes root starts ends narrow wide) (lent changed) 0) (lent dist) (lent keys) (lent found) Every (left dist) (left keys) (left mins) (left found) × Kept (lent_table_at nodes root starts ends narrow wide) (left asked) }
+    requires { Proper (table_at nodes root starts.now ends.now narrow.now wide.now) × Partly (net_at profile nodes root starts.now ends.now narrow.now wide.now) (Untouched (net_at profile nodes root starts.now ends.now narrow.now wide.now) changed.now 0) dist.old keys.old mins.old × Naming (length starts.now) changed.now × (length found.old ≡ most_nodes) × Heads starts.now at.now × Kept (table_at nodes root starts.now ends.now narrow.now wide.now) asked.old }
+    ensures { Heard (net_at profile nodes root starts.now ends.now narrow.now wide.now) (Untouched (net_at profile nodes root starts.now ends.now narrow.now wide.now) changed.now 0) dist.old keys.old found.old Every dist.new keys.new mins.new found.new × Kept (table_at nodes root starts.now ends.now narrow.now wide.now) asked.new }
 {
     let mut i: usize = 0;
     while i < changed.len() {

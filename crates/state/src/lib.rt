@@ -12,7 +12,7 @@ use tree::Tree;
 
 // What is kept between records, beside the lent columns: how many links stand in them, how many rows wait for APPLY,
 // and the tree, which means something while routing.
-#[derive(Drop)]
+#[derive(Clone, Copy)]
 pub struct State {
     pub phase: Phase,
     pub nodes: usize,
@@ -23,7 +23,7 @@ pub struct State {
 }
 
 // What a record tells. The changed nodes themselves stand in the lent list.
-#[derive(Drop)]
+#[derive(Clone, Copy)]
 pub enum Out {
     Nothing,
     Row {
@@ -40,7 +40,7 @@ pub enum Out {
     },
 }
 
-#[derive(Drop)]
+#[derive(Clone, Copy)]
 pub struct Done {
     pub state: State,
     pub out: Out,

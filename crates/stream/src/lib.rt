@@ -5,7 +5,7 @@ ghost use Rattle.std.specs.Prelude.{◌≡◌, ◌+◌, ◌*◌, ◌≤◌, leng
 ghost use Rattle.stream.specs.Records.{body_length, bytes_in, number_at, number_of, record_at, stands, GivenAt};
 
 // What stands at a place: a record, the end, or a refusal with the place of its kind byte.
-#[derive(Drop)]
+#[derive(Clone, Copy)]
 pub enum Item {
     Network { nodes: u16, root: u16 },
     Link { start: u16, end: u16, cost: u16 },
@@ -17,7 +17,7 @@ pub enum Item {
     CutShort(usize),
 }
 
-#[derive(Drop)]
+#[derive(Clone, Copy)]
 pub struct Read {
     pub item: Item,
     // The place past a record; at the end and after a refusal, the same place again.
@@ -25,7 +25,7 @@ pub struct Read {
 }
 
 // How long the body of a record is, or that no record has that kind.
-#[derive(Drop)]
+#[derive(Clone, Copy)]
 pub enum Body {
     Bytes(usize),
     Unknown,

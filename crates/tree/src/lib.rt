@@ -3,8 +3,7 @@
 
 ghost use Rattle.std.specs.Prelude.{◌≡◌, ◌≤◌};
 ghost use Rattle.rules.specs.Answers.{told};
-ghost use Rattle.rules.specs.Columns.{empty_tree};
-ghost use Rattle.rules.specs.Lent.{lent, left, lent_table};
+ghost use Rattle.rules.specs.Columns.{empty_tree, table};
 ghost use Rattle.rules.specs.Refusals.{judge_tree};
 ghost use Rattle.rules.specs.Jobs.{Built, Updated, Pathed};
 ghost use Rattle.batch.specs.Rows.{rows_of_columns};
@@ -15,7 +14,7 @@ use gather::Rows;
 use rules::{Answer, Change, UNREACHED};
 
 // For each of 256 nodes a distance, a parent link and a first link. Any numbers may stand in it: every job judges it.
-#[derive(Drop)]
+#[derive(Clone, Copy)]
 pub struct Tree {
     pub dist: [u32; 256],
     pub parent: [u16; 256],
@@ -23,14 +22,14 @@ pub struct Tree {
 }
 
 // What a fresh build hands back.
-#[derive(Drop)]
+#[derive(Clone, Copy)]
 pub struct FreshTree {
     pub tree: Tree,
     pub answer: Answer,
 }
 
 // What an update hands back; `count` is how many nodes changed.
-#[derive(Drop)]
+#[derive(Clone, Copy)]
 pub struct NextTree {
     pub tree: Tree,
     pub answer: Answer,
@@ -38,7 +37,7 @@ pub struct NextTree {
 }
 
 // What asking for a path hands back; `count` is how many links it has.
-#[derive(Drop)]
+#[derive(Clone, Copy)]
 pub struct PathTold {
     pub answer: Answer,
     pub count: usize,
@@ -77,7 +76,7 @@ impl Tree {
         ends: &[u16],
         costs: &[u16],
     ) -> Answer
-        ensures { told result ≡ judge_tree (lent_table nodes root starts ends costs) (arrays_of self) }
+        ensures { told result ≡ judge_tree (table nodes root starts.now ends.now costs.now) (arrays_of self) }
     {
         fit::judge_rows(
             nodes,
@@ -99,7 +98,7 @@ impl Tree {
         ends: &[u16],
         costs: &[u16],
     ) -> FreshTree
-        ensures { Built (lent_table nodes root starts ends costs) (told result.answer) (arrays_of result.tree) }
+        ensures { Built (table nodes root starts.now ends.now costs.now) (told result.answer) (arrays_of result.tree) }
     {
         let mut dist = [0u32; 256];
         let mut parent = [0u16; 256];
@@ -137,7 +136,7 @@ impl Tree {
         batch: &[Change],
         list: &mut [u16],
     ) -> NextTree
-        ensures { Updated (lent_table nodes root starts ends costs) (arrays_of self) (lent batch) (lent list) (told result.answer) (arrays_of result.tree) (left costs) (left list) result.count }
+        ensures { Updated (table nodes root starts.now ends.now costs.old) (arrays_of self) batch.now list.old (told result.answer) (arrays_of result.tree) costs.new list.new result.count }
     {
         let rows = gather::gather(batch);
         self.update_rows(nodes, root, starts, ends, costs, rows, list)
@@ -155,7 +154,7 @@ impl Tree {
         list: &mut [u16],
     ) -> NextTree
         requires { rows.count ≤ most_read }
-        ensures { Updated (lent_table nodes root starts ends costs) (arrays_of self) (batch_of rows) (lent list) (told result.answer) (arrays_of result.tree) (left costs) (left list) result.count }
+        ensures { Updated (table nodes root starts.now ends.now costs.old) (arrays_of self) (batch_of rows) list.old (told result.answer) (arrays_of result.tree) costs.new list.new result.count }
     {
         let changed = rows.link;
         let newcosts = rows.cost;
@@ -184,7 +183,7 @@ impl Tree {
         newcosts: &[u16],
         list: &mut [u16],
     ) -> NextTree
-        ensures { Updated (lent_table nodes root starts ends costs) (arrays_of self) (rows_of_columns (lent changed) (lent newcosts)) (lent list) (told result.answer) (arrays_of result.tree) (left costs) (left list) result.count }
+        ensures { Updated (table nodes root starts.now ends.now costs.old) (arrays_of self) (rows_of_columns changed.now newcosts.now) list.old (told result.answer) (arrays_of result.tree) costs.new list.new result.count }
     {
         let mut dist = self.dist;
         let mut parent = self.parent;
@@ -225,7 +224,7 @@ impl Tree {
         node: usize,
         list: &mut [u16],
     ) -> PathTold
-        ensures { Pathed (lent_table nodes root starts ends costs) (arrays_of self) node (lent list) (told result.answer) (left list) result.count }
+        ensures { Pathed (table nodes root starts.now ends.now costs.now) (arrays_of self) node list.old (told result.answer) list.new result.count }
     {
         let mut count: usize = 0;
         let answer = route::path(

@@ -2,8 +2,7 @@
 #![tactic(auto)]
 
 ghost use Rattle.std.specs.Prelude.{◌≡◌, true, ◌+◌, ◌≤◌, length};
-ghost use Rattle.rules.specs.Lent.{lent, left};
-ghost use Rattle.session.specs.Holding.{lists_at, lent_lists, left_lists, Holds};
+ghost use Rattle.session.specs.Holding.{Holds, lists};
 ghost use Rattle.lines.specs.Lines.{line_room};
 ghost use Rattle.earlier.specs.Earlier.{earlier_of};
 ghost use Rattle.turn.specs.Turns.{is_again, Turned};
@@ -15,7 +14,7 @@ use stream::Item;
 const MOST_BYTES: usize = 32_768;
 
 // Where the turns so far have led.
-#[derive(Drop)]
+#[derive(Clone, Copy)]
 pub struct Turn {
     pub state: State,
     // The place of the next item.
@@ -45,7 +44,7 @@ fn is_again(out: Out) -> bool
 
 // The place of the earlier record with the same link, which is looked for where it is told.
 fn earlier(stream: &[u8], place: usize, item: Item, out: Out) -> usize
-    ensures { is_again out ≡ true → result ≡ earlier_of (lent stream) place item }
+    ensures { is_again out ≡ true → result ≡ earlier_of stream.now place item }
 {
     if is_again(out) {
         return earlier::earlier_of(stream, place, item);
@@ -65,8 +64,8 @@ pub fn take_turn(
     list: &mut [u16],
     text: &mut [u8],
 ) -> Turn
-    requires { Holds so_far.state (lists_at starts ends costs changed newcosts list) × (so_far.end + line_room ≤ length text.old) }
-    ensures { Turned (lent stream) so_far.next so_far.state (lent_lists starts ends costs changed newcosts list) (lent text) so_far.end result (left_lists starts ends costs changed newcosts list) (left text) }
+    requires { Holds so_far.state (lists starts.old ends.old costs.old changed.old newcosts.old list.old) × (so_far.end + line_room ≤ length text.old) }
+    ensures { Turned stream.now so_far.next so_far.state (lists starts.old ends.old costs.old changed.old newcosts.old list.old) text.old so_far.end result (lists starts.new ends.new costs.new changed.new newcosts.new list.new) text.new }
 {
     let place = so_far.next;
     let at = so_far.end;

@@ -2,8 +2,7 @@
 #![tactic(auto)]
 
 ghost use Rattle.std.specs.Prelude.{◌≤◌, length};
-ghost use Rattle.rules.specs.Lent.{lent, left};
-ghost use Rattle.session.specs.Holding.{lists_at, lent_lists, left_lists, Holds};
+ghost use Rattle.session.specs.Holding.{Holds, lists};
 ghost use Rattle.lines.specs.Lines.{line_room};
 ghost use Rattle.turns.specs.Filling.{Filled};
 
@@ -24,8 +23,8 @@ pub fn fill(
     list: &mut [u16],
     text: &mut [u8],
 ) -> Turn
-    requires { Holds state (lists_at starts ends costs changed newcosts list) × (line_room ≤ length text.old) }
-    ensures { Filled (lent stream) place state (lent_lists starts ends costs changed newcosts list) (lent text) result (left_lists starts ends costs changed newcosts list) (left text) }
+    requires { Holds state (lists starts.old ends.old costs.old changed.old newcosts.old list.old) × (line_room ≤ length text.old) }
+    ensures { Filled stream.now place state (lists starts.old ends.old costs.old changed.old newcosts.old list.old) text.old result (lists starts.new ends.new costs.new changed.new newcosts.new list.new) text.new }
 {
     let mut turn = Turn {
         state: state,

@@ -3,9 +3,8 @@
 
 ghost use Rattle.std.specs.Prelude.{◌≡◌};
 ghost use Rattle.rules.specs.Answers.{told};
-ghost use Rattle.rules.specs.Columns.{Whole};
+ghost use Rattle.rules.specs.Columns.{Whole, table, arrays};
 ghost use Rattle.rules.specs.Jobs.{Updated};
-ghost use Rattle.rules.specs.Lent.{table_at, tree_at, lent, left, lent_table, lent_tree, left_tree};
 ghost use Rattle.rules.specs.Refusals.{accepted, judge_update};
 ghost use Rattle.batch.specs.Rows.{rows_of_columns};
 
@@ -26,8 +25,8 @@ fn apply(
     first: &mut [u16; 256],
     list: &mut [u16],
 ) -> usize
-    requires { (judge_update (table_at nodes root starts ends costs) (tree_at dist parent first) (rows_of_columns changed.now newcosts.now) list.old ≡ accepted) × Whole (tree_at dist parent first) }
-    ensures { Updated (lent_table nodes root starts ends costs) (lent_tree dist parent first) (rows_of_columns (lent changed) (lent newcosts)) (lent list) accepted (left_tree dist parent first) (left costs) (left list) result }
+    requires { (judge_update (table nodes root starts.now ends.now costs.old) (arrays dist.old parent.old first.old) (rows_of_columns changed.now newcosts.now) list.old ≡ accepted) × Whole (arrays dist.old parent.old first.old) }
+    ensures { Updated (table nodes root starts.now ends.now costs.old) (arrays dist.old parent.old first.old) (rows_of_columns changed.now newcosts.now) list.old accepted (arrays dist.new parent.new first.new) costs.new list.new result }
 {
     let old_dist = *dist;
     let old_parent = *parent;
@@ -77,7 +76,7 @@ pub fn update(
     list: &mut [u16],
     count: &mut usize,
 ) -> Answer
-    ensures { Updated (lent_table nodes root starts ends costs) (lent_tree dist parent first) (rows_of_columns (lent changed) (lent newcosts)) (lent list) (told result) (left_tree dist parent first) (left costs) (left list) (left count) }
+    ensures { Updated (table nodes root starts.now ends.now costs.old) (arrays dist.old parent.old first.old) (rows_of_columns changed.now newcosts.now) list.old (told result) (arrays dist.new parent.new first.new) costs.new list.new count.new }
 {
     let answer = judge::judge_update(
         nodes, root, starts, ends, costs, dist, parent, first, changed, newcosts, list,

@@ -4,18 +4,17 @@
 
 ghost use Rattle.std.specs.Prelude.{◌≡◌, ◌<◌, ltb, length, get_or};
 ghost use Rattle.rules.specs.Columns.{Proper, some_leads};
-ghost use Rattle.rules.specs.Lent.{lent};
 ghost use Rattle.rules.specs.Tests.{usable};
 ghost use Rattle.costs.specs.Costs.{costs_of};
 ghost use Rattle.heads.specs.Heads.{HeadIn, Heads};
-ghost use Rattle.usable.specs.Standing.{given_table, lent_table_at, lent_net};
+ghost use Rattle.usable.specs.Standing.{table_at, net_at};
 
 use rules::Profile;
 
 // A link of cost 0 is down, whatever leads back.
 pub fn up(narrow: &[u16], wide: &[u32], k: usize) -> bool
     requires { k < length (costs_of narrow.now wide.now) }
-    ensures { result ≡ ltb 0 (get_or (costs_of (lent narrow) (lent wide)) k 0) }
+    ensures { result ≡ ltb 0 (get_or (costs_of narrow.now wide.now) k 0) }
 {
     0 < costs::at(narrow, wide, k)
 }
@@ -33,8 +32,8 @@ pub fn some_leads(
     from: u16,
     to: u16,
 ) -> bool
-    requires { Proper (given_table nodes root starts ends narrow wide) × HeadIn starts.now from head }
-    ensures { result ≡ some_leads (lent_table_at nodes root starts ends narrow wide) from to }
+    requires { Proper (table_at nodes root starts.now ends.now narrow.now wide.now) × HeadIn starts.now from head }
+    ensures { result ≡ some_leads (table_at nodes root starts.now ends.now narrow.now wide.now) from to }
 {
     let mut k = head as usize;
     while k < starts.len() {
@@ -64,8 +63,8 @@ pub fn usable(
     at: &[u16; 256],
     k: usize,
 ) -> bool
-    requires { Proper (given_table nodes root starts ends narrow wide) × Heads starts.now at.now × (k < length starts.now) }
-    ensures { result ≡ usable (lent_net profile nodes root starts ends narrow wide) k }
+    requires { Proper (table_at nodes root starts.now ends.now narrow.now wide.now) × Heads starts.now at.now × (k < length starts.now) }
+    ensures { result ≡ usable (net_at profile nodes root starts.now ends.now narrow.now wide.now) k }
 {
     if up(narrow, wide, k) {
         let end = ends[k];

@@ -3,7 +3,7 @@
 -- of the lifetimes that were lent. Assumes `Logic`, and that the table of calls is monotone under a frame.
 use mathlib.Core.List.{List, [], ◌∷◌}
 use seplogic.Ra.Ura.{Ura}
-use mir.Syntax.{Name, Place, Opd as Operand, Body, seq, call}
+use mir.Syntax.{Callee, Place, Opd as Operand, Body, seq, call}
 use mir.Val.{Val}
 use base.Logic.{ent, via, snd∗, ex_e, id⊢}
 use prog.Wp.{Env, Calls, Loops}
@@ -21,7 +21,7 @@ use denote.Triple.Entry.{Res, alive}
 use denote.Triple.Spec.{triple_of}
 use denote.Triple.Statement.{Triple}
 
-module _ {M : Type 1} {𝓤 : Ura M} {𝓛 : Logic 𝓤} {K : Type 0} {Γ : List (Item 𝓤)} {E : Env 𝓤 𝓛.H} {C : Calls 𝓤 𝓛.H} {f : Name} {xs : List Operand} {Λ : Loops 𝓤 𝓛.H} {q : Post 𝓤 𝓛.H} {d : Place} {rest : Body} where
+module _ {M : Type 1} {𝓤 : Ura M} {𝓛 : Logic 𝓤} {K : Type 0} {Γ : List (Item 𝓤)} {E : Env 𝓤 𝓛.H} {C : Calls 𝓤 𝓛.H} {f : Callee} {xs : List Operand} {Λ : Loops 𝓤 𝓛.H} {q : Post 𝓤 𝓛.H} {d : Place} {rest : Body} where
   open 𝓛 use {H}
 
   pub calls_told : K → FmC 𝓤 H 𝓛.laws C → (T : Ended) (c : Clauses 𝓤 T) → Triple 𝓤 (C f) (triple_of 𝓛 T.signature (closing 𝓛 T c))

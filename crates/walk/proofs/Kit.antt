@@ -3,15 +3,15 @@
 pub use base.Fml.{Lft, Share, Fml, ftrue, flft, fat, GName, froom, fdies, fshr_bor, fsep}
 pub use base.Logic.{SProp, ent, sep, id⊢}
 pub use contract.Monad.{Fun, fact}
-pub use contract.Running.{given_of}
 pub use denote.Exit.{yes}
 pub use denote.Triple.Clauses.{ensured, lasts}
 pub use denote.Triple.Entry.{on_entry, Vals}
 pub use denote.Triple.Spec.{triple_of}
 pub use denote.Triple.Statement.{Contract, Triple}
 pub use denote.Triple.Walked.{says, Stays, stay_none_slice, walk_of, Goes-none_slice, ends_at, stay_none, Goes-none, gave_slice, Goes-gave_slice}
-pub use ghost.Atoms.{Atoms, sem}
-pub use seplogic.Ra.TreeShare.{full_share}
+pub use ghost.Atoms.{Atoms}
+pub use Rattle.std.specs.Borrow.{sem}
+pub use Rattle.std.specs.Borrow.{full_share}
 pub use seplogic.Ra.Ura.{Ura}
 pub use prog.Memory.{Memory}
 pub use prog.Routine.{Routine}
@@ -40,7 +40,7 @@ pub use denote.Steps.{nothing, owned, only, peeks, heard}
 pub use denote.Struct.Rest.{own_shut, all_own, field_own, rest, own_open, own_out, own_put}
 pub use denote.Triple.Call.{calls_at}
 pub use sound.WpLaws.{fm_of}
-pub use types.Kit.{Given, ‵, raw, ◌⊛◌, ◌$◌, ◌∵◌, !, qed, by, move, use1, split, fsplit, fjoin, suffices, frame, given, ⋆, drop, use2, join, learn, rewrite, fpack, feq_i, done, Item, runs, any_q, at_ret, Sq, keep, use3, some, later, split3, pick, feq_l, await}
+pub use types.Kit.{‵, raw, ◌⊛◌, ◌$◌, ◌∵◌, !, qed, by, move, use1, split, fsplit, fjoin, suffices, frame, given, ⋆, drop, use2, join, learn, rewrite, fpack, feq_i, done, Item, runs, any_q, at_ret, Sq, keep, use3, some, later, split3, pick, feq_l, await}
 pub use types.Part.{agg, whole, sub, look_in}
 pub use types.Run.{look, init, forget, stop, from, load, lit, and_then, no_more, assigns, returns, enter, alloc1, alloc0, params1, pass1, pass0, free1, free0, fld, of_opd, land, look_raw, store, hop, bin, assigns_last, first, stays, leaves_loop, blocks, exec, Below, again, loops, addr}
 pub use types.Share.{arr_parts}

@@ -6,7 +6,7 @@ use seplogic.Ra.Ura.{Ura}
 use mir.Syntax.{Fn}
 use base.Logic.{ent, via, fst∗}
 use prog.Model.{Model}
-use prog.Routine.{Name, Routine, Env}
+use prog.Routine.{Callee, Routine, Env}
 use prog.Wp.{WpFn, Tables, Closed}
 use types.Logic.{Logic}
 use contract.Lifetimes.{Lfts, Shares, AllOutlive}
@@ -30,12 +30,12 @@ module _ {M : Type 1} {𝓤 : Ura M} (𝓛 : Logic 𝓤) (𝓜 : Model 𝓤 𝓛
   code_tables = tables_of 𝓤 H 𝓜 (tables 𝓤 H 𝓜 𝓡 env)
 
   -- a callee's theorem, at the name by which the code calls it
-  pub calls : (c : Contract 𝓤) (callee : Name) (routine : Routine) → env callee ≡ routine → Triple 𝓤 (𝓡.run routine) c → Triple 𝓤 (code_tables.C callee) c
+  pub calls : (c : Contract 𝓤) (callee : Callee) (routine : Routine) → env callee ≡ routine → Triple 𝓤 (𝓡.run routine) c → Triple 𝓤 (code_tables.C callee) c
   unfolding code_tables tables_of
   calls c callee routine is met = cited 𝓤 H c 𝓜 𝓡 env callee routine is met
 
   -- a walk of the code is the function's theorem
-  module _ (T : Ended) (hs : Stays T.signature.params T.kept) (c : Clauses 𝓤 T) (name : Name) (code : Fn)
+  module _ (T : Ended) (hs : Stays T.signature.params T.kept) (c : Clauses 𝓤 T) (name : Callee) (code : Fn)
       (unfolded : Closed 𝓤 H (tables 𝓤 H 𝓜 𝓡 env).C (tables 𝓤 H 𝓜 𝓡 env).Λ name code)
       (go : AllGo 𝓛 T.signature.lifetimes T.signature.params T.kept hs)
       (spelled : (κs : Lfts T.signature.lifetimes) → Spells (types_at T.signature.params κs))
