@@ -8,7 +8,7 @@ use Prim.Native.Nat.{ℕ, ◌<◌}
 use native.Mathlib.Decide.{ℕ_discrete}
 use native.Mathlib.Omega.{arith}
 use lib.Dec.{leb}
-use lib.ListN.{length, get_or}
+use lib.ListN.{get_or}
 use borrow.Author.Tests.{leb-false, not-false}
 use Rattle.rules.specs.Net.{Net}
 use Rattle.rules.specs.Fit.{Rows, Hung, Fits, Path, Reached}

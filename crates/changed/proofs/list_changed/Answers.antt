@@ -1,7 +1,7 @@
 -- `changed::list_changed` meets its contract. The invariant: the nodes below `v` have been looked at; the measure is the number
 -- of nodes left. Assumes nothing.
 use mathlib.Core.Path.{sym, ◌∙◌}
-use Prim.Native.Nat.{◌-◌, ◌<◌}
+use Prim.Native.Nat.{◌<◌}
 use native.Mathlib.Omega.{arith}
 use lib.ListN.{length-set}
 use borrow.Author.Rules.{rules}

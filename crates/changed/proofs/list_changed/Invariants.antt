@@ -9,7 +9,7 @@ use Rattle.changed.proofs.list_changed.Given as goal
 
 abbrev pub invariant-loop-v : goal.invariant-loop-v
 invariant-loop-v l =
-    (l.v ≤ l.nodes) × (length l.list ≡ length l.initial.list) × ListedBelow (arrays l.dist l.parent l.first) (arrays l.fn.new_dist l.fn.new_parent l.fn.new_first) l.v l.initial.list l.list l.count
+    (l.v ≤ l.nodes) × (length l.list ≡ length l.initial.list) × ListedBelow (arrays l.dist l.parent l.first) (arrays l.new_dist l.new_parent l.new_first) l.v l.initial.list l.list l.count
 
 abbrev pub decreases-loop-v : goal.decreases-loop-v
 decreases-loop-v l = l.nodes - l.v

@@ -1,9 +1,7 @@
 -- `each::judge_each` meets its contract. The loop's invariant is that the links before `i` are passed, with the first
 -- fall among them; the measure is the number of links left. Each answer is what decides in Laws. Assumes nothing.
 use mathlib.Core.Path.{sym, ◌∙◌}
-use mathlib.Core.Logic.{inl, inr, ⊎_elim}
-use Prim.Native.Nat.{◌-◌}
-use borrow.Author.Tests.{eqb-true, eqb-false}
+use mathlib.Core.Logic.{inl, inr}
 use Rattle.rules.specs.Refusals.{wrong_ends_at}
 use Rattle.each.proofs.Laws.{passed_none, passed_more, falls_here, falls_not_here, ends_decide, order_decides, nothing_decides}
 use Rattle.each.proofs.judge_each.Goals as goal
@@ -40,6 +38,6 @@ loop-i-preserved c =
     let link = c.loop-i-test.true in
     let right = sym c.wrong_ends.ensures ∙ c.if-wrong_ends.false in
     elim c.else-start-previous.branch [
-        else-start-previous-via-then-start-previous+else-fall-links w ↦ passed_more passed link right (falls_not_here passed link (inr w.if-fall-links.false))
+      | else-start-previous-via-then-start-previous+else-fall-links w ↦ passed_more passed link right (falls_not_here passed link (inr w.if-fall-links.false))
       | else-start-previous-via-else-start-previous w ↦ passed_more passed link right (falls_not_here passed link (inl w.if-start-previous.false))
     ]

@@ -1,6 +1,5 @@
 -- `each::wrong_links` meets its contract. The loop's invariant is that the links before `i` are counted; the measure is
 -- the number of links left. Assumes nothing.
-use Prim.Native.Nat.{◌-◌}
 use native.Mathlib.Omega.{arith}
 use Rattle.rules.specs.Refusals.{wrong_ends_at}
 use Rattle.each.proofs.Laws.{counted_none, counted_more, none_counted}

@@ -1,7 +1,7 @@
 -- `firsts::first_links` meets its contract. The loop's invariant is that the first links before `v` are known; the
 -- measure is the number of nodes left. Assumes nothing.
 use mathlib.Core.Path.{◌≡◌}
-use Prim.Native.Nat.{◌-◌, ◌<◌}
+use Prim.Native.Nat.{◌<◌}
 use native.Mathlib.Omega.{arith}
 use borrow.Author.Rules.{rules}
 use Rattle.rules.specs.Columns.{most_nodes}

@@ -37,7 +37,26 @@ returns-then-v-root c =
     let within : c.loop-v.v < most_nodes = hangs_within c.requires.0 (first_hangs c.loop-v.invariant.here) in
     spreading_written within c.loop-v.invariant
 
+pub offset_bounds-first-v-in-loop-v : goal.offset_bounds-first-v-in-loop-v
+offset_bounds-first-v-in-loop-v c =
+    let next-within : c.start_of-v.result < most_nodes = up_within c.requires.0 (first_hangs c.loop-v.invariant.here) c.start_of-v.ensures c.if-v-root.false in
+    omega (arith, next-within)
+
+pub bounds-first-v-in-loop-v : goal.bounds-first-v-in-loop-v
+bounds-first-v-in-loop-v c =
+    let next-within : c.start_of-v.result < most_nodes = up_within c.requires.0 (first_hangs c.loop-v.invariant.here) c.start_of-v.ensures c.if-v-root.false in
+    next-within
+
 pub returns-then-first-v : goal.returns-then-first-v
 returns-then-first-v c =
     let within : c.loop-v.v < most_nodes = hangs_within c.requires.0 (first_hangs c.loop-v.invariant.here) in
     spreading_written within c.loop-v.invariant
+
+pub loop-v-smaller : goal.loop-v-smaller
+loop-v-smaller c = up_nearer c.requires.0 (first_hangs c.loop-v.invariant.here) c.start_of-v.ensures
+
+pub loop-v-preserved : goal.loop-v-preserved
+loop-v-preserved c =
+    let within : c.loop-v.v < most_nodes = hangs_within c.requires.0 (first_hangs c.loop-v.invariant.here) in
+    let spreading = c.loop-v.invariant in
+    spreading_more c.requires.0 c.start_of-v.ensures spreading (spreading_written within spreading) c.if-v-root.false

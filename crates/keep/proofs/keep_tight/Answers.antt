@@ -1,6 +1,6 @@
 -- `keep::keep_tight` meets its contract. The loop's invariant is that the nodes before `v` are done and the others as
 -- they were; the measure is the number of nodes left. Assumes nothing.
-use Prim.Native.Nat.{◌-◌, ◌<◌}
+use Prim.Native.Nat.{◌<◌}
 use native.Mathlib.Omega.{arith}
 use Rattle.rules.specs.Columns.{most_nodes}
 use Rattle.keep.proofs.Laws.{passing_none, passing_more, all_kept, kept_read, stands_read}

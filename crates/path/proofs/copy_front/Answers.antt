@@ -1,7 +1,6 @@
 -- `path::copy_front` meets its contract. The loop's invariant: the first `i` places are written and the others stay; the
 -- measure is what is left of the front. Assumes nothing.
 use mathlib.Core.Path.{◌≡◌, refl}
-use Prim.Native.Nat.{◌-◌}
 use native.Mathlib.Omega.{arith}
 use lib.Seq.{take-length}
 use lib.ListN.{length, length-set}
