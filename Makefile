@@ -9,23 +9,20 @@ PREFIX ?= /usr/local
 run:
 	@./run
 
-# Everything: proves every crate from nothing, tries each must-fail edit, runs each program and compares what it prints;
-# then all of the below that tests something.
+# Everything: proves every crate, tries each must-fail edit, runs each program and compares what it prints; then all of the
+# below that tests something.
 test:
 	@./test
 
 # ---- what is built
 
-# The archive for other languages, target/lib/libroutes.a, and the program `routes`, target/bin/routes, proved and written:
-# nothing is said where that goes well. PROVED=yes takes them as they stand. Each target has its own log, target/NAME.log.
-quietly = mkdir -p target && $(1) >target/$@.log 2>&1 || { cat target/$@.log; false; }
-
+# The archive for other languages, target/lib/libroutes.a, and the program `routes`, target/bin/routes: proved and built where
+# the text has changed since.
 archive:
-	@[ -n "$(PROVED)" ] || { $(call quietly,rt staticlib border); }
-	@mkdir -p target/lib && cp -p target/staticlib/libborder.a target/lib/libroutes.a
+	@tools/build.sh archive
 
 program:
-	@[ -n "$(PROVED)" ] || { $(call quietly,rt check routes); }
+	@tools/build.sh program
 
 # The converter of record streams between text and bytes: target/rust/release/records. It needs nothing proved.
 records:
@@ -102,7 +99,7 @@ run-test: program
 
 # A copy installed under target/installed, used as anyone would use it.
 installed:
-	@$(MAKE) --no-print-directory install PREFIX="$(CURDIR)/target/installed" DESTDIR= PROVED=$(PROVED)
+	@$(MAKE) --no-print-directory install PREFIX="$(CURDIR)/target/installed" DESTDIR=
 	@tests/installed.sh target/installed
 
 # The Rust code's layout, and what clippy says, where they are installed.
@@ -126,7 +123,7 @@ bench-once: archive program
 	@bench/peers/build.sh
 	@cd rust && cargo build --offline --quiet --release -p compare --bin room
 	@cd bench && cargo build --offline --quiet --release
-	@$(call quietly,target/rust/release/bench once)
+	@target/rust/release/bench once >target/$@.log 2>&1 || { cat target/$@.log; false; }
 	@tail -1 target/$@.log
 
 # Installs the libraries that `make bench` sets beside the product where it finds them.
@@ -134,4 +131,4 @@ bench-peers:
 	@bench/install.sh
 
 clean:
-	rm -rf target
+	rm -rf target crates/*/out

@@ -1,7 +1,7 @@
 -- Once the links so far are an accepted table, one more is judged by itself and the start before it. Assumes nothing.
 use mathlib.Core.Path.{◌≡◌, refl, sym, ◌∙◌}
 use mathlib.Core.Bool.{Bool, true, false, cond}
-use mathlib.Core.List.{List, [], ◌∷◌, ◌++◌}
+use mathlib.Core.List.{List, [], ◌∷◌}
 use Prim.Native.Nat.{ℕ, ◌+◌, ◌-◌, ◌≤◌, ◌<◌}
 use native.Mathlib.Omega.{arith}
 use native.Mathlib.Decide.{ℕ_discrete}
@@ -9,9 +9,9 @@ use lib.Dec.{ltb}
 use lib.ListN.{length, get_or, length-append, get_or-append, get_or-eq_default}
 use lib.Seq.{get_or-append_seam}
 use borrow.Author.Count.{below_more}
-use borrow.Author.Tests.{lt-ltb, le-ltb, eq-eqb, eqb-true}
+use borrow.Author.Tests.{lt-ltb, le-ltb, eq-eqb}
 use Rattle.rules.specs.Columns.{Table, table, most_links}
-use Rattle.rules.specs.Refusals.{only, Verdict, accepted, refused, ◌then◌, when, when_one, wrong_node_count, wrong_root, wrong_columns, wrong_ends, wrong_ends_at, wrong_order_at, judge_each, judge_links}
+use Rattle.rules.specs.Refusals.{only, accepted, refused, ◌then◌, when, when_one, wrong_node_count, wrong_root, wrong_columns, wrong_ends, wrong_ends_at, wrong_order_at, judge_each, judge_links}
 use Rattle.rules.specs.declared.Answer.TheVariants.{Accepted, WrongColumns, WrongEnds, WrongOrder}
 use Rattle.rules.proofs.Logic.{First, first_is}
 use Rattle.rules.proofs.Judged.{then_first, then_second, when_not, none_of, not_refused, links_proper}

@@ -1,7 +1,7 @@
 -- Once the rows so far are accepted, one more is judged by itself and the links that they name. Assumes nothing.
 use mathlib.Core.Path.{◌≡◌, refl, sym, ap, ◌∙◌}
 use mathlib.Core.Bool.{Bool, true, false, ◌||◌, cond}
-use mathlib.Core.List.{List, [], ◌∷◌, ◌++◌}
+use mathlib.Core.List.{List, [], ◌∷◌}
 use Prim.Native.Nat.{ℕ, ◌+◌, ◌≤◌, ◌<◌}
 use native.Mathlib.Omega.{arith}
 use lib.Dec.{eqb, ltb, leb}
@@ -11,10 +11,10 @@ use borrow.Author.Count.{below_more}
 use borrow.Author.Tests.{lt-ltb, le-ltb, ltb-false, le-leb, lt-leb}
 use Rattle.rules.specs.Tests.{first_below}
 use Rattle.rules.specs.Columns.{Table, most_rows}
-use Rattle.rules.specs.Refusals.{only, both, earliest, Verdict, accepted, refused, link_at, names_no_link, names_again, first_bad_row, judge_rows}
+use Rattle.rules.specs.Refusals.{only, both, earliest, accepted, refused, link_at, names_no_link, names_again, first_bad_row, judge_rows}
 use Rattle.rules.specs.declared.Change.{Change}
 use Rattle.rules.specs.declared.Answer.TheVariants.{Accepted, TooManyRows, RowNamesNoLink, RowNamesLinkAgain}
-use Rattle.rules.proofs.Logic.{First, first_of, first_is, or-false}
+use Rattle.rules.proofs.Logic.{First, first_of, first_is}
 use Rattle.rules.proofs.Judged.{not_refused}
 use Rattle.batch.specs.Rows.{rows_of_columns}
 use Rattle.batch.proofs.Laws.{links_fewer, row_at}

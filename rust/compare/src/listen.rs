@@ -109,7 +109,7 @@ fn stored() -> Vec<(String, Vec<u8>)> {
     all
 }
 
-// The one that `rt check routes` writes, or another that the variable ROUTES names.
+// The one that `make program` proves and builds, or another that the variable ROUTES names.
 fn compiled() -> Compiled {
     let own = Path::new(env!("CARGO_MANIFEST_DIR")).join("../../target/bin/routes");
     let file = std::env::var_os("ROUTES").map_or(own, PathBuf::from);

@@ -1,6 +1,5 @@
 -- `alone::first_bad_row` meets its contract. The invariant: the rows passed are right. Assumes nothing.
 use mathlib.Core.Path.{sym, ◌∙◌}
-use Prim.Native.Nat.{◌-◌}
 use native.Mathlib.Omega.{arith}
 use borrow.Author.Rules.{rules}
 use Rattle.alone.proofs.Laws.{right_none, right_more}

@@ -1,6 +1,5 @@
 -- `earlier::earlier_change` meets its contract. The loop's invariant: what is left to look at gives what all gives; the measure
 -- is how far the place is. Assumes nothing.
-use Prim.Native.Nat.{◌-◌}
 use native.Mathlib.Omega.{arith}
 use Rattle.stream.proofs.Laws.{given_is}
 use Rattle.earlier.proofs.Laws.{looking_none, looking_end, looking_stops, looking_more}

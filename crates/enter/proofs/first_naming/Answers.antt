@@ -1,7 +1,5 @@
 -- `enter::first_naming` meets its contract: the rows passed name another link. Assumes nothing.
 use mathlib.Core.Path.{sym}
-use mathlib.Core.Bool.{false}
-use Prim.Native.Nat.{◌-◌}
 use native.Mathlib.Omega.{arith}
 use borrow.Author.Count.{below_none, below_more}
 use borrow.Author.Rules.{rules}

@@ -1,6 +1,6 @@
 -- `links::judge_links` meets its contract: each test of the code is the rules' test of the same number, and the first
 -- that passes decides; past them all, the links do, by their count or by the pass. Assumes nothing.
-use Rattle.std.proofs.Common.{◌≡◌, ◌∙◌, ℕ, List, false, eq-eqb, ne_eqb, le-ltb, lt-ltb, le-leb, ◌≢◌, ◌≤◌, ◌<◌, length}
+use Rattle.std.proofs.Common.{◌≡◌, ◌∙◌, false, eq-eqb, ne_eqb, le-ltb, lt-ltb, le-leb, ◌≢◌, ◌≤◌, ◌<◌, length}
 use Rattle.std.proofs.lemmas.Bool.{lt-leb}
 use Rattle.rules.specs.Columns.{Table, table}
 use Rattle.rules.specs.Refusals.{wrong_node_count, wrong_root, wrong_columns, wrong_ends_at, wrong_order_at, judge_each, judge_links}

@@ -1,6 +1,5 @@
 -- `offends::bars` meets its contract. The invariant: the bars of the nodes passed stand. Assumes nothing.
 use mathlib.Core.Path.{◌≡◌}
-use Prim.Native.Nat.{◌-◌}
 use native.Mathlib.Omega.{arith}
 use borrow.Author.Rules.{rules}
 use Rattle.rules.specs.Columns.{most_nodes}

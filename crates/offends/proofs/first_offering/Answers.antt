@@ -1,5 +1,4 @@
 -- `offends::first_offering` meets its contract. The invariant: none of the links passed offends. Assumes nothing.
-use Prim.Native.Nat.{◌-◌}
 use native.Mathlib.Omega.{arith}
 use Rattle.offends.proofs.Laws.{calm_none, calm_down, calm_level}
 use Rattle.offends.proofs.first_offering.Goals as goal

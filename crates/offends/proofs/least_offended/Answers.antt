@@ -1,7 +1,6 @@
 -- `offends::least_offended` meets its contract. The invariant: `least` is the answer for the links passed, and what was
 -- asked is kept. What one link more does to it stands in Laws.antt. Assumes nothing.
 use mathlib.Core.Path.{◌≡◌}
-use Prim.Native.Nat.{◌-◌}
 use native.Mathlib.Omega.{arith}
 use lib.ListN.{length}
 use borrow.Author.Rules.{rules}
