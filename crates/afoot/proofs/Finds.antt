@@ -6,16 +6,16 @@ use mathlib.Core.List.{List}
 use Prim.Native.Nat.{ℕ, ◌+◌, ◌≤◌, ◌<◌}
 use native.Mathlib.Omega.{arith}
 use native.Mathlib.Decide.{ℕ_discrete}
-use lib.ListN.{length, set, length-set}
+use lib.ListN.{length, length-set}
 use lib.Seq.{get_or-set_same, get_or-set_other}
 use Rattle.rules.specs.Net.{Net, Usable}
-use Rattle.rules.specs.Fit.{Rows, Tight}
+use Rattle.rules.specs.Fit.{Tight}
 use Rattle.rules.specs.Columns.{most_nodes}
 use Rattle.level.specs.Level.{Level}
 use Rattle.queue.specs.Queue.{empty, Rekeyed}
 use Rattle.offer.specs.Offer.{dist_at, key_at, found_at, Lined, Offered, left, taken, Noted, passed, written, Lowered}
 use Rattle.offer.proofs.Laws.{waits_now}
-use Rattle.afoot.specs.Afoot.{Orderly, Every, NotFrom, Partly, Settled, Fallen, same, lower, Fell}
+use Rattle.afoot.specs.Afoot.{Orderly, Every, NotFrom, Partly, Settled, Fallen, same, lower}
 use Rattle.afoot.specs.Finding.{Carries, Brings, Moved, Yields, Finding, Found, hung_by, GoesOn, Comes}
 use Rattle.afoot.proofs.Offers.{link_fell, others_still, end_is_node}
 

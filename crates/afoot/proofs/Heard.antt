@@ -1,5 +1,5 @@
 -- The two loops that offer links before the loop proper: those into lifted nodes, and those of the rows. Assumes nothing.
-use mathlib.Core.Path.{◌≡◌, refl, sym, ◌∙◌}
+use mathlib.Core.Path.{◌≡◌, refl, sym}
 use mathlib.Core.Logic.{◌⊎◌, inl, inr, ◌≢◌}
 use mathlib.Core.Bool.{Bool, true, not}
 use mathlib.Core.List.{List}
@@ -14,7 +14,7 @@ use Rattle.rules.proofs.Logic.{true_false}
 use Rattle.heads.specs.Heads.{Head}
 use Rattle.offer.specs.Offer.{dist_at, found_at, Lined, Told, unheard, heard}
 use Rattle.afoot.specs.Afoot.{Orderly, Back, Touches, Untouched, Seeded, Calm, Partly}
-use Rattle.afoot.specs.Finding.{Yields, Finding, GoesOn, Heard, CalmOr}
+use Rattle.afoot.specs.Finding.{Yields, Finding, Heard, CalmOr}
 use Rattle.afoot.proofs.Offers.{fell_none, fell_then, link_fell, partly_fewer, partly_more}
 use Rattle.afoot.proofs.Finds.{on_none, on_fewer, on_more, on_then}
 use Rattle.afoot.proofs.Rounds.{part_past}

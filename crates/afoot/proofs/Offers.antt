@@ -6,7 +6,7 @@ use mathlib.Core.List.{List}
 use Prim.Native.Nat.{ℕ, ◌+◌, ◌≤◌, ◌<◌}
 use native.Mathlib.Omega.{arith}
 use native.Mathlib.Decide.{ℕ_discrete}
-use lib.ListN.{length, get_or, set}
+use lib.ListN.{length, set}
 use lib.Seq.{get_or-set_same, get_or-set_other}
 use Rattle.rules.specs.Net.{Net, Usable, along}
 use Rattle.rules.specs.Columns.{Table, Proper, net_in, most_nodes}

@@ -2,7 +2,7 @@
 use mathlib.Core.Path.{◌≡◌, sym, ◌∙◌}
 use mathlib.Core.Logic.{◌≢◌}
 use mathlib.Core.List.{List}
-use Prim.Native.Nat.{ℕ, zero, suc, ◌+◌, ◌-◌, ◌%◌, ◌^◌, ◌≤◌, ◌<◌}
+use Prim.Native.Nat.{ℕ, ◌+◌, ◌%◌, ◌^◌, ◌≤◌, ◌<◌}
 use native.Mathlib.Omega.{arith}
 use native.Mathlib.Decide.{dec_lt, ℕ_discrete}
 use lib.ListN.{length, get_or, set, replicate, length-replicate}
@@ -11,7 +11,7 @@ use Rattle.rules.specs.Net.{Net, Usable, at_root}
 use Rattle.rules.specs.Columns.{most_nodes}
 use Rattle.level.specs.Level.{Level}
 use Rattle.basics.proofs.Arrays.{rise}
-use Rattle.queue.specs.Queue.{empty, key_of, Least, LeastKey, Rekeyed}
+use Rattle.queue.specs.Queue.{empty, key_of, LeastKey, Rekeyed}
 use Rattle.queue.proofs.Laws.{least_key, queue_none}
 use Rattle.rules.proofs.Logic.{get_d_any}
 use Rattle.basics.proofs.Arrays.{filled}

@@ -1,4 +1,4 @@
-// The two forms that are proved by hand, run on cases: `Tree::update` with its lent slice of rows, and the `Reader`, which
+// The two forms that C can't call, run on cases: `Tree::update` with its lent slice of rows, and the `Reader`, which
 // carries the stream together with its place. A line for each call: of an update the refusal's number, the two values that it
 // carries and the count, the rows of the tree that aren't empty (node:distance,parent,first), the cost column and the lent
 // list; of the reader what it gives, by number, and where it then stands. tests/forms.py works the expected lines out.
@@ -22,7 +22,7 @@ const COSTS: [u16; 8] = [4, 7, 4, 2, 7, 2, 1, 1];
 // What stands in a list before it is lent: no node of the cases.
 const LIST: [u16; 6] = [7001, 7002, 7003, 7004, 7005, 7006];
 
-// ---- the two walks by hand
+// ---- the two forms
 
 // The rows lent as a slice.
 fn by_rows(

@@ -1,7 +1,7 @@
 -- Where a network is ample, it makes no difference that the mark is taken for the ceiling: a tree fits the one as it fits
 -- the other, and what is chosen in the one is chosen in the other. Assumes nothing.
-use mathlib.Core.Path.{◌≡◌, refl}
-use Prim.Native.Nat.{ℕ, ◌+◌, ◌*◌, ◌≤◌, ◌<◌}
+use mathlib.Core.Path.{refl}
+use Prim.Native.Nat.{ℕ, ◌+◌, ◌≤◌, ◌<◌}
 use native.Mathlib.Omega.{arith}
 use Rattle.rules.specs.Net.{Net, Legal, Roomy, Usable}
 use Rattle.rules.specs.Fit.{Rows, Tight, Offer, Hung, Row, root, hung, bare, Fits}

@@ -1,2 +1,2 @@
-// No code: proofs/ has what the proofs by hand share.
+// No code: proofs/ has what proofs by hand share. No function needs one today.
 #![tactic(auto)]
