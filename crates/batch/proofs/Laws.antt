@@ -1,19 +1,16 @@
 -- The rows of two columns, the pass that judges them, and the writing of their costs. Assumes nothing.
 use mathlib.Core.Path.{◌≡◌, refl, sym, ap, ◌∙◌}
-use mathlib.Core.Logic.{◌≢◌}
-use mathlib.Core.Bool.{Bool, true, false, ◌||◌, cond}
+use mathlib.Core.Bool.{Bool, true, false, ◌||◌}
 use mathlib.Core.List.{List, [], ◌∷◌}
 use Prim.Native.Nat.{ℕ, zero, suc, ◌+◌, ◌≤◌, ◌<◌}
 use native.Mathlib.Omega.{arith}
 use native.Mathlib.Nat.{not-suc-le-zero, le_of_suc-le-suc}
 use native.Mathlib.Numerals.{add-one}
-use native.Mathlib.Decide.{ℕ_discrete, dec_lt}
 use lib.Dec.{eqb, ltb, leb}
-use lib.ListN.{length, get_or, set, drop, replicate, length-set, length-replicate, get_or-replicate, drop_of_length-le}
-use lib.Seq.{drop-cons, get_or-set_same, get_or-set_other}
+use lib.ListN.{length, get_or, set, drop, replicate, length-set, drop_of_length-le}
+use lib.Seq.{drop-cons}
 use borrow.Author.Count.{below_none, below_more}
 use borrow.Author.Tests.{lt-ltb, le-ltb, le-leb, lt-leb, eq-eqb, ne_eqb}
-use Rattle.rules.specs.Tests.{first_below}
 use Rattle.rules.specs.Columns.{Table, applied, most_rows}
 use Rattle.rules.specs.Refusals.{earliest, link_at, names_no_link, names_again, first_bad_row, judge_rows}
 use Rattle.rules.specs.declared.Change.{Change}

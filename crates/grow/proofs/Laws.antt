@@ -12,7 +12,7 @@ use borrow.Author.Tests.{eq-eqb, ne_eqb}
 use Rattle.rules.specs.Net.{Net, Legal, Usable}
 use Rattle.rules.specs.Fit.{Tight, Row, root, hung, bare}
 use Rattle.rules.specs.Keep.{Smallest}
-use Rattle.rules.specs.Columns.{Table, Arrays, Proper, Whole, arrays, net_in, rows_in, most_nodes, no_link, with_costs}
+use Rattle.rules.specs.Columns.{Table, Arrays, Proper, arrays, net_in, rows_in, most_nodes, no_link, with_costs}
 use Rattle.rules.specs.declared.Profile.{Profile}
 use Rattle.rules.proofs.Logic.{true_false}
 use Rattle.basics.proofs.Arrays.{filled, leaving}
@@ -27,7 +27,7 @@ use Rattle.whole.proofs.Whole.{Hangable, Hanged, tight_holds, holds_tight, Best,
 use Rattle.offer.specs.Offer.{dist_at, key_at, found_at, Lined}
 use Rattle.offer.proofs.Laws.{waits_now}
 use Rattle.afoot.specs.Afoot.{Every, Untouched, Calm, Partly, Settled, Fallen, same, lower, Fell}
-use Rattle.afoot.specs.Finding.{Moved, Finding, Found, hung_by, GoesOn, Heard, Comes, CalmOr}
+use Rattle.afoot.specs.Finding.{Moved, Found, hung_by, GoesOn, Heard, Comes, CalmOr}
 use Rattle.afoot.proofs.Finds.{finding_none, carries_still, carries_tight}
 use Rattle.afoot.proofs.Heard.{heard_fewer, heard_then}
 use Rattle.afoot.proofs.Rounds.{lined_none, Alone, settled}

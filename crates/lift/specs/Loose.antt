@@ -1,6 +1,6 @@
 -- Which distances still stand after costs have changed: a node's parent link carries it, or the node waits to be
 -- lifted. Nothing is asked of the parents: they may be any links, or none. Assumes nothing.
-use Rattle.std.specs.Prelude.{◌≡◌, ◌≢◌, Bool, true, false, List, ℕ, ◌≤◌, ◌<◌, ltb, length, get_or}
+use Rattle.std.specs.Prelude.{◌≡◌, ◌≢◌, Bool, true, false, List, ℕ, ◌<◌, ltb, length, get_or}
 use Rattle.rules.specs.Net.{Net}
 use Rattle.rules.specs.Keep.{count}
 use Rattle.rules.specs.Columns.{most_nodes}

@@ -46,7 +46,7 @@ turn_fits bytes f (too_long l) = f
 turn_fits {stream} {place} bytes f (reads few steps) = steps_fit f (read_fits bytes (standing stream place)) steps
 
 -- through every turn
-pub tells_fit : {stream : List ℕ} {place next turns : ℕ} {s r : State} {k after : Lists} {told : List ℕ} {goes : Bool} → AreBytes stream → CostsFit k
+pub tells_fit : {stream : List ℕ} {place : ℕ} {s : State} {k : Lists} {turns : ℕ} {told : List ℕ} {r : State} {after : Lists} {next : ℕ} {goes : Bool} → AreBytes stream → CostsFit k
     → Tells stream place s k turns told r after next goes → CostsFit after
 tells_fit bytes f no_turn = f
 tells_fit bytes f (then before turn) = turn_fits bytes (tells_fit bytes f before) turn
@@ -58,7 +58,7 @@ pub record LedTo (stream : List ℕ) (start : ℕ) (from : State) (lent : Lists)
   pub led : Led from lent items s k
 
 -- turns with more behind them are records
-pub tells_led : {stream : List ℕ} {place after_place turns : ℕ} {s r : State} {k after : Lists} {told : List ℕ} {goes : Bool} → Tells stream place s k turns told r after after_place goes
+pub tells_led : {stream : List ℕ} {place : ℕ} {s : State} {k : Lists} {turns : ℕ} {told : List ℕ} {r : State} {after : Lists} {after_place : ℕ} {goes : Bool} → Tells stream place s k turns told r after after_place goes
     → goes ≡ true → LedTo stream place s k r after after_place
 tells_led no_turn e = record { items = []; read = ReadFrom.none; led = none }
 tells_led (then before (too_long l)) e = absurd (both e refl)

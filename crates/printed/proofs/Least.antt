@@ -91,7 +91,7 @@ module _ {stream : List ℕ} {from : State} {lent : Lists} {turns place : ℕ} {
 
 -- ---- every turn
 
-tells_least : {stream : List ℕ} {from r : State} {lent after : Lists} {turns place : ℕ} {told : List ℕ} {goes : Bool} → AreBytes stream → from.phase ≡ Unread → CostsFit lent
+tells_least : {stream : List ℕ} {from : State} {lent : Lists} {turns : ℕ} {told : List ℕ} {r : State} {after : Lists} {place : ℕ} {goes : Bool} → AreBytes stream → from.phase ≡ Unread → CostsFit lent
     → Tells stream 0 from lent turns told r after place goes → LeastText stream from lent told
 tells_least bytes unread fits no_turn = none
 tells_least bytes unread fits (then before (too_long l)) = other (tells_least bytes unread fits before) (refusal 24 most_bytes)

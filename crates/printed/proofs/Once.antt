@@ -71,7 +71,7 @@ turn_once p q =
 -- ---- turn after turn
 
 -- so many turns from one start tell one text and lead to one state
-tells_once : {stream : List ℕ} {place next next' turns turns' : ℕ} {s r r' : State} {k after after' : Lists} {told told' : List ℕ} {goes goes' : Bool}
+tells_once : {stream : List ℕ} {place : ℕ} {s : State} {k : Lists} {turns : ℕ} {told : List ℕ} {r : State} {after : Lists} {next : ℕ} {goes : Bool} {turns' : ℕ} {told' : List ℕ} {r' : State} {after' : Lists} {next' : ℕ} {goes' : Bool}
     → Tells stream place s k turns told r after next goes → Tells stream place s k turns' told' r' after' next' goes' → turns ≡ turns'
     → OneTurn told told' r r' after after' next next' goes goes'
 tells_once none none e = record { lines = refl; states = refl; lent = refl; places = refl; ways = refl }
@@ -93,12 +93,12 @@ record Early (stream : List ℕ) (place : ℕ) (s : State) (k : Lists) (turns : 
   pub tells : Tells stream place s k turns told state lent next true
   pub shorter : length told ≤ length text
 
-early : {stream : List ℕ} {place next turns : ℕ} {s r : State} {k after : Lists} {text : List ℕ} {goes : Bool} (fewer : ℕ)
+early : {stream : List ℕ} {place : ℕ} {s : State} {k : Lists} {turns : ℕ} {text : List ℕ} {r : State} {after : Lists} {next : ℕ} {goes : Bool} (fewer : ℕ)
     → Tells stream place s k turns text r after next goes → goes ≡ true → fewer ≤ turns → Early stream place s k fewer text
 early {place = place} {s = s} {k = k} fewer none e l =
     let zero : fewer ≡ 0 = omega arith in
     record { told = []; state = s; lent = k; next = place; tells = rw zero none; shorter = omega arith }
-early {stream} {place} {next} {s = s} {r = r} {k = k} {after = after} fewer (then {turns = turns} {told = told} {line = line} part turn) e l =
+early {stream} {place} {s} {k} {r = r} {after = after} {next = next} fewer (then {turns = turns} {told = told} {line = line} part turn) e l =
     at (λ less. early fewer part refl less) (dec_lt fewer (suc turns))
   where
     at : (fewer ≤ turns → Early stream place s k fewer told) → Dec (fewer < suc turns) → Early stream place s k fewer (told ++ line)

@@ -18,7 +18,8 @@ use Rattle.state.specs.States.{refusing, goes_on}
 use Rattle.order.specs.Order.{is_unread}
 use Rattle.session.specs.Holding.{Lists}
 use Rattle.session.specs.Steps.{Steps, out_of_order, unknown as unknown_kind, cut as cut_short, ended, network, link, change, apply, ask}
-use Rattle.lines.specs.Lines.{line_of, refusal_line}
+use Rattle.earlier.specs.Earlier.{earlier_of}
+use Rattle.lines.specs.Lines.{line_of, line_of, refusal_line}
 use Rattle.turns.proofs.Moves.{tells_on, tells_within}
 use Rattle.turn.specs.Turns.{most_bytes, Turns, too_long, reads}
 use Rattle.turns.specs.Filling.{Tells, none, then}
@@ -35,7 +36,7 @@ pub data Runs (stream : List ℕ) : ℕ → State → Lists → List ℕ → Typ
   more : {place next : ℕ} {s r : State} {k after : Lists} {line text : List ℕ} → Turns stream place s k line r after next true
       → Runs stream next r after text → Runs stream place s k (line ++ text)
 
-runs_behind : {stream : List ℕ} {place next turns : ℕ} {s r : State} {k after : Lists} {told text : List ℕ} {goes : Bool}
+runs_behind : {stream : List ℕ} {place : ℕ} {s : State} {k : Lists} {turns : ℕ} {told : List ℕ} {r : State} {after : Lists} {next : ℕ} {goes : Bool} {text : List ℕ}
     → Tells stream place s k turns told r after next goes → goes ≡ true → Runs stream next r after text → Runs stream place s k (told ++ text)
 runs_behind none e behind = behind
 runs_behind {text = text} (then {told = told} {line = line} part turn) e behind =
@@ -63,7 +64,7 @@ pub end_place : (stream : List ℕ) (place : ℕ) → place ≤ length stream �
 end_place stream place l e = omega (arith, only_at_end (standing stream place) e)
 
 -- parts that follow each other are one part
-pub tells_then : {stream : List ℕ} {place next further turns others : ℕ} {s r end : State} {k after afterwards : Lists} {told text : List ℕ} {goes : Bool}
+pub tells_then : {stream : List ℕ} {place : ℕ} {s : State} {k : Lists} {turns : ℕ} {told : List ℕ} {r : State} {after : Lists} {next others : ℕ} {text : List ℕ} {end : State} {afterwards : Lists} {further : ℕ} {goes : Bool}
     → Tells stream place s k turns told r after next true → Tells stream next r after others text end afterwards further goes
     → Tells stream place s k (turns + others) (told ++ text) end afterwards further goes
 tells_then {turns = turns} {told = told} part none = rw (add-zero turns, append-nil told) part
@@ -106,7 +107,8 @@ end_turn : {stream : List ℕ} {place next : ℕ} {s r : State} {k after : Lists
 end_turn (too_long l) few e u = absurd (omega arith)
 end_turn {stream} {place} (reads {done} {after} few' steps) few e u =
     let is = unread_end steps e u in
-    (rw is refl, rw e refl)
+    let earlier = earlier_of stream place (read_at stream place).item in
+    (ap (λ (d : Done). line_of d.out after.list place earlier) is, rw e refl)
 
 end_run : {stream : List ℕ} {place : ℕ} {s : State} {k : Lists} {text : List ℕ} → Runs stream place s k text
     → length stream ≤ most_bytes → (read_at stream place).item ≡ End → s.phase ≡ Unread → text ≡ refusal_line 23 place

@@ -31,7 +31,7 @@ record TellsSoFar (stream : List ℕ) (s : State) (k : Lists) (text : List ℕ) 
   pub turns : ℕ
   pub tells : Tells stream 0 s k turns text r after place goes
 
-writes_tells : {stream : List ℕ} {s r : State} {k after : Lists} {text : List ℕ} {place : ℕ} {goes : Bool} → Writes stream s k text r after place goes
+writes_tells : {stream : List ℕ} {s : State} {k : Lists} {text : List ℕ} {r : State} {after : Lists} {place : ℕ} {goes : Bool} → Writes stream s k text r after place goes
     → TellsSoFar stream s k text r after place goes
 writes_tells nothing = record { turns = 0; tells = none }
 writes_tells (part writes f) =

@@ -24,7 +24,7 @@ moves_on (too_long l) e = absurd (both e refl)
 moves_on {stream} {place} (reads {done} few steps) e = moves (standing stream place) (first_true (is_record (read_at stream place).item) _ e)
 
 -- so do turns with another behind them, a byte or more each
-pub tells_on : {stream : List ℕ} {place next turns : ℕ} {s r : State} {k after : Lists} {told : List ℕ} {goes : Bool}
+pub tells_on : {stream : List ℕ} {place : ℕ} {s : State} {k : Lists} {turns : ℕ} {told : List ℕ} {r : State} {after : Lists} {next : ℕ} {goes : Bool}
     → Tells stream place s k turns told r after next goes → goes ≡ true → place + turns ≤ next
 tells_on none e = omega arith
 tells_on (then part turn) e =
@@ -32,12 +32,12 @@ tells_on (then part turn) e =
     let on = moves_on turn e in
     omega arith
 
-pub tells_within : {stream : List ℕ} {place next turns : ℕ} {s r : State} {k after : Lists} {told : List ℕ} {goes : Bool}
+pub tells_within : {stream : List ℕ} {place : ℕ} {s : State} {k : Lists} {turns : ℕ} {told : List ℕ} {r : State} {after : Lists} {next : ℕ} {goes : Bool}
     → Tells stream place s k turns told r after next goes → goes ≡ true → place ≤ length stream → next ≤ length stream
 tells_within none e l = l
 tells_within (then part turn) e l = (moves_on turn e).within
 
-pub tells_moves : {stream : List ℕ} {place next turns : ℕ} {s r : State} {k after : Lists} {told : List ℕ} {goes : Bool}
+pub tells_moves : {stream : List ℕ} {place : ℕ} {s : State} {k : Lists} {turns : ℕ} {told : List ℕ} {r : State} {after : Lists} {next : ℕ} {goes : Bool}
     → Tells stream place s k turns told r after next goes → goes ≡ true → 0 < turns → Moves stream place next
 tells_moves none e some = absurd (omega arith)
 tells_moves (then part turn) e some =

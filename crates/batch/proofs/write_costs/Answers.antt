@@ -1,7 +1,7 @@
 -- `batch::write_costs` meets its contract. The loop's invariant: writing the rows from `i` on gives the batch's column; the
 -- measure is the number of rows left. Assumes nothing.
 use mathlib.Core.List.{List}
-use Prim.Native.Nat.{◌-◌, ◌<◌}
+use Prim.Native.Nat.{◌<◌}
 use native.Mathlib.Omega.{arith}
 use lib.ListN.{length}
 use Rattle.rules.specs.declared.Change.{Change}

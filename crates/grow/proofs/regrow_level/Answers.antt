@@ -3,7 +3,7 @@ use Rattle.std.proofs.Common.{ap, not}
 use mathlib.Core.Path.{refl}
 use Rattle.basics.proofs.Arrays.{leaving}
 use Rattle.asked.proofs.Laws.{kept_none}
-use Rattle.grow.proofs.Laws.{rooted, has_to_run, regrown_stopped}
+use Rattle.grow.proofs.Laws.{regrown_stopped}
 use Rattle.grow.proofs.regrow_level.Goals as goal
 
 pub first_links-at-requires : goal.first_links-at-requires

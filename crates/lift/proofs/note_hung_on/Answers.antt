@@ -1,5 +1,4 @@
 -- `lift::note_hung_on` meets its contract. The invariant: every node stands but those that hang on u by link k or a later one. Assumes nothing.
-use Prim.Native.Nat.{◌-◌}
 use native.Mathlib.Omega.{arith}
 use Rattle.lift.proofs.Notes.{noting_none, noting_all, noting_past, noting_free, noting_hung}
 use Rattle.usable.proofs.Reading.{end_has_row}

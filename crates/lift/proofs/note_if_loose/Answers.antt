@@ -1,6 +1,6 @@
 -- `lift::note_if_loose` meets its contract: the node is carried, or noted. Assumes nothing.
 use native.Mathlib.Omega.{arith}
-use Rattle.lift.proofs.Notes.{noted_waits, noted_carried}
+use Rattle.lift.proofs.Notes.{noted_waits}
 use Rattle.lift.proofs.note_if_loose.Goals as goal
 
 pub offset_bounds-parent-v : goal.offset_bounds-parent-v

@@ -1,5 +1,4 @@
 -- `lift::note_loose` meets its contract. The invariant: every node below v stands. Assumes nothing.
-use Prim.Native.Nat.{◌-◌}
 use native.Mathlib.Omega.{arith}
 use Rattle.lift.proofs.Notes.{loose_none, loose_root, loose_asked, loose_all}
 use Rattle.lift.proofs.note_loose.Goals as goal

@@ -1,6 +1,5 @@
 -- `lift::note_rows` meets its contract. The invariant: every node stands but those whose parent link a row from the i-th
 -- on touches; the measure is the number of rows left. Assumes nothing.
-use Prim.Native.Nat.{◌-◌}
 use Rattle.lift.proofs.Notes.{rows_more, rows_all}
 use Rattle.lift.proofs.note_rows.Goals as goal
 

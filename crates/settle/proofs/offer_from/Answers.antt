@@ -1,7 +1,7 @@
 -- `settle::offer_from` meets its contract. The invariant: the links that leave `u` are offered up to `k`, and what is known
 -- of the links found goes on; the measure is the number of links left. Assumes nothing.
 use mathlib.Core.Path.{refl}
-use Prim.Native.Nat.{◌-◌, ◌<◌}
+use Prim.Native.Nat.{◌<◌}
 use native.Mathlib.Omega.{arith}
 use Rattle.rules.specs.Net.{Net}
 use Rattle.rules.specs.Columns.{net_in, most_nodes}

@@ -1,14 +1,14 @@
 -- `settle::offer_into` meets its contract. The invariant: links that were calm are done, and those before `k` into nodes
 -- without a first link; the measure is the number of links left. Assumes nothing.
 use mathlib.Core.Path.{◌∙◌}
-use Prim.Native.Nat.{◌-◌, ◌<◌}
+use Prim.Native.Nat.{◌<◌}
 use native.Mathlib.Omega.{arith}
 use lib.ListN.{get_or}
 use Rattle.rules.specs.Columns.{most_nodes, no_link}
 use Rattle.rules.proofs.Logic.{get_d_any}
 use Rattle.usable.proofs.Reading.{end_has_row}
 use Rattle.afoot.proofs.Offers.{orderly}
-use Rattle.afoot.proofs.Heard.{heard_fewer, heard_more, calm_none, calm_only, into_none, into_more, into_past, into_all}
+use Rattle.afoot.proofs.Heard.{heard_fewer, heard_more, calm_none, into_none, into_more, into_past, into_all}
 use Rattle.settle.proofs.offer_into.Goals as goal
 
 pub loop-k-init : goal.loop-k-init

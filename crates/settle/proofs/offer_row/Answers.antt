@@ -1,6 +1,6 @@
 -- `settle::offer_row` meets its contract. The invariant: the row's link is done, and each before `k` that leads back over
 -- it; the measure is the number of links left. Assumes nothing.
-use Prim.Native.Nat.{ℕ, ◌-◌, ◌<◌}
+use Prim.Native.Nat.{ℕ, ◌<◌}
 use native.Mathlib.Omega.{arith}
 use lib.ListN.{length, get_or}
 use Rattle.rules.specs.Net.{Net}

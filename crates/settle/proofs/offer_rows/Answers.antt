@@ -1,6 +1,5 @@
 -- `settle::offer_rows` meets its contract. The invariant: every link is done that no row from the i-th on touches; the
 -- measure is the number of rows left. Assumes nothing.
-use Prim.Native.Nat.{◌-◌}
 use Rattle.rules.specs.Net.{Net}
 use Rattle.rules.specs.Columns.{net_in}
 use Rattle.usable.specs.Standing.{table_at}

@@ -1,6 +1,5 @@
 -- `threads::earliest_row` meets its contract. The loop's invariant: no row from `at` on names the link, and the one before it is
 -- on the link's thread; `at` falls at each turn. Assumes nothing.
-use Prim.Native.Nat.{◌-◌}
 use Rattle.threads.proofs.Laws.{Sought}
 use Rattle.threads.proofs.earliest_row.Given as goal
 
