@@ -5,7 +5,7 @@ use mathlib.Core.List.{List, [], ◌++◌}
 use Prim.Native.Nat.{ℕ}
 use lib.ListN.{take, drop, take-append-drop}
 use Rattle.rules.specs.Columns.{Arrays, table}
-use Rattle.rules.specs.Refusals.{Verdict, judge_links}
+use Rattle.rules.specs.Refusals.{judge_links}
 use Rattle.rules.proofs.Logic.{true_false}
 use Rattle.rules.proofs.OneOutcome.{built_once, updated_once}
 use Rattle.tree.specs.declared.Tree.{Tree}

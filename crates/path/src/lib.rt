@@ -7,7 +7,7 @@ ghost use Rattle.rules.specs.Jobs.{written};
 ghost use Rattle.path.specs.Climb.{parents, Climbable, Counted, FilledFrom, Traces};
 
 // How many links stand at the list's front now, or that the list has no room for them.
-#[derive(Drop)]
+#[derive(Clone, Copy)]
 pub enum Traced {
     Written(usize),
     TooShort,

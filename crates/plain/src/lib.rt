@@ -19,7 +19,7 @@ pub fn tell(answer: Answer, values: &mut [u16; 2]) -> u16
 
 // A record as other languages take it: its kind, and its numbers, 32 bits wide, with 0 in the places that it doesn't have. Where there
 // is none, all of it is 0.
-#[derive(Drop)]
+#[derive(Clone, Copy)]
 struct Parts {
     kind: u8,
     numbers: [u32; 3],

@@ -10,7 +10,7 @@ use native.Mathlib.Decide.{dec_lt}
 use lib.Dec.{leb}
 use lib.ListN.{length, take, drop, set, length-append, length-drop, length-set, take-append-drop}
 use lib.Seq.{take_all, take_at, set_out}
-use Rattle.rules.specs.Columns.{Table, table, Arrays, rows_of, applied}
+use Rattle.rules.specs.Columns.{Table, table, Arrays, rows_of}
 use Rattle.rules.specs.Jobs.{changed_below, Built}
 use Rattle.rules.specs.Refusals.{Verdict, accepted, refused, judge_links}
 use Rattle.rules.specs.declared.Change.{Change as Row-change}
@@ -24,7 +24,7 @@ use Rattle.splits.proofs.Splits.{both}
 use Rattle.order.specs.declared.Phase.{Phase}
 use Rattle.order.specs.declared.Phase.TheVariants.{Unread, Linking, Routing}
 use Rattle.state.specs.declared.Out.{Out}
-use Rattle.state.specs.declared.Out.TheVariants.{Nothing, Row, Changed, Refused}
+use Rattle.state.specs.declared.Out.TheVariants.{Row, Changed, Refused}
 use Rattle.state.specs.declared.State.{State}
 use Rattle.state.specs.declared.Done.{Done}
 use Rattle.enter.specs.More.{judge_waiting}

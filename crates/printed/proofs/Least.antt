@@ -1,9 +1,9 @@
 -- Every N line of every stream shows the least sum over the links then usable. Assumes nothing.
-use mathlib.Core.Path.{◌≡◌, refl, sym, ap, ◌∙◌}
+use mathlib.Core.Path.{◌≡◌, refl, sym, ap}
 use mathlib.Core.Logic.{◌⊎◌, inl, inr}
 use mathlib.Core.Bool.{Bool, true, false, cond}
 use mathlib.Core.List.{List, [], ◌++◌}
-use Prim.Native.Nat.{ℕ, ◌≤◌, ◌<◌}
+use Prim.Native.Nat.{ℕ, ◌<◌}
 use native.Mathlib.Omega.{arith}
 use native.Mathlib.Decide.{dec_lt}
 use lib.Dec.{eqb}
@@ -26,7 +26,7 @@ use Rattle.outcomes.proofs.Listed.{met}
 use Rattle.outcomes.proofs.OneOutcome.{ready_read}
 use Rattle.lines.specs.Lines.{line_of, refusal_line, again_line}
 use Rattle.earlier.specs.Earlier.{earlier_of}
-use Rattle.turn.specs.Turns.{most_bytes, Turns, too_long, reads}
+use Rattle.turn.specs.Turns.{most_bytes, too_long, reads}
 use Rattle.turns.specs.Filling.{Tells, none as no_turn, then}
 use Rattle.printed.specs.Prints.{Prints}
 use Rattle.printed.specs.Least.{LeastLine, OtherLine, silent, changed, refused as refusal, again, LeastText, none, row, other}

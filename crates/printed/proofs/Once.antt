@@ -22,7 +22,7 @@ use Rattle.turn.specs.Turns.{Turns, too_long, reads, Turned}
 use Rattle.turns.specs.Filling.{Tells, none, then, Filled}
 use Rattle.printed.specs.Prints.{Prints}
 use Rattle.printed.proofs.Runs.{Runs, last, more, runs}
-use Rattle.printed.proofs.Alike.{SameLong, Alike, unread, step_same}
+use Rattle.printed.proofs.Alike.{Alike, unread, step_same}
 
 -- ---- a turn
 

@@ -1,6 +1,6 @@
 -- A run ends, and what a stream prints. Assumes nothing.
-use mathlib.Core.Path.{◌≡◌, refl, sym, ap, ◌∙◌}
-use mathlib.Core.Bool.{Bool, true, false, not, ◌&&◌}
+use mathlib.Core.Path.{◌≡◌, refl, ap}
+use mathlib.Core.Bool.{Bool, true, false}
 use mathlib.Core.List.{List, [], ◌++◌, append_assoc, append-nil}
 use Prim.Native.Nat.{ℕ, ◌+◌, ◌≤◌, ◌<◌}
 use native.Mathlib.Omega.{arith}
@@ -8,13 +8,13 @@ use native.Mathlib.Nat.{add-zero, add-suc}
 use lib.ListN.{length}
 use Rattle.stream.specs.declared.Item.{Item}
 use Rattle.stream.specs.declared.Item.TheVariants.{End}
-use Rattle.stream.specs.Records.{read_at, is_record}
+use Rattle.stream.specs.Records.{read_at}
 use Rattle.splits.proofs.Stands.{standing}
 use Rattle.splits.proofs.Splits.{both, only_at_end}
 use Rattle.order.specs.declared.Phase.TheVariants.{Unread}
 use Rattle.state.specs.declared.State.{State}
 use Rattle.state.specs.declared.Done.{Done}
-use Rattle.state.specs.States.{refusing, goes_on}
+use Rattle.state.specs.States.{refusing}
 use Rattle.order.specs.Order.{is_unread}
 use Rattle.session.specs.Holding.{Lists}
 use Rattle.session.specs.Steps.{Steps, out_of_order, unknown as unknown_kind, cut as cut_short, ended, network, link, change, apply, ask}

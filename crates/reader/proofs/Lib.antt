@@ -1,3 +1,3 @@
--- Theorems about specs/, and what the walks share.
+-- Theorems about specs/, and what walks by hand share.
 pub mod Laws
 pub mod Passed

@@ -10,7 +10,7 @@ use lib.Seq.{length-take-le, length_front}
 use borrow.Author.Tests.{ltb-false}
 use Rattle.rules.specs.Fit.{Rows}
 use Rattle.rules.specs.Tests.{first_below}
-use Rattle.rules.specs.Columns.{Table, Arrays, table, rows_of, after, most_links, most_rows, most_nodes}
+use Rattle.rules.specs.Columns.{Table, table, rows_of, after, most_links, most_rows, most_nodes}
 use Rattle.rules.specs.Refusals.{Verdict, accepted, refused, ◌then◌, when, judge_links, judge_tree, judge_rows, first_bad_row}
 use Rattle.rules.specs.Jobs.{differs, changed_below}
 use Rattle.rules.specs.declared.Change.{Change as CostChange}

@@ -1,7 +1,7 @@
 -- What one record does, whatever it is and whenever it comes. Assumes nothing.
-use Rattle.std.specs.Prelude.{◌≡◌, true, false, List, [], ℕ, take, drop}
+use Rattle.std.specs.Prelude.{◌≡◌, false, List, [], ℕ, take, drop}
 use Rattle.rules.specs.Columns.{table}
-use Rattle.rules.specs.Refusals.{Verdict, accepted, refused, judge_links}
+use Rattle.rules.specs.Refusals.{Verdict, accepted, judge_links}
 use Rattle.rules.specs.Jobs.{Built, Updated}
 use Rattle.batch.specs.Rows.{rows_of_columns}
 use Rattle.stream.specs.declared.Item.{Item}

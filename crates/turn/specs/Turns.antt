@@ -1,5 +1,5 @@
 -- One turn of a stream: the item at a place is read, does what it does, and its line is told. Assumes nothing.
-use Rattle.std.specs.Prelude.{ℕ, ◌≤◌, ◌<◌, Bool, true, false, List, eqb, length}
+use Rattle.std.specs.Prelude.{ℕ, ◌≤◌, ◌<◌, Bool, false, List, eqb, length}
 use Rattle.stream.specs.Records.{read_at}
 use Rattle.earlier.specs.Earlier.{earlier_of}
 use Rattle.state.specs.declared.Out.{Out}

@@ -1,6 +1,6 @@
 -- `gather::gather` meets its contract: a turn reads a row and stores its link and its cost (`Upto`), and what is read ends
 -- where the batch does, or at one row more than a batch may have. Assumes nothing.
-use Rattle.std.proofs.Common.{ℕ, ◌≤◌, length, subst, arith}
+use Rattle.std.proofs.Common.{ℕ, length, subst, arith}
 use Rattle.gather.specs.Gathering.{most_read}
 use Rattle.gather.proofs.Laws.{Upto, upto_none, upto_more, least_left, least_right, upto_all}
 use Rattle.gather.proofs.gather.Goals as goal

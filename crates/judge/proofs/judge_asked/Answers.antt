@@ -5,7 +5,7 @@ use Prim.Native.Nat.{◌<◌}
 use native.Mathlib.Omega.{arith}
 use borrow.Author.Rules.{rules}
 use lib.Dec.{eqb}
-use Rattle.rules.specs.Columns.{Table, Arrays, Whole, table, arrays, rows_of, most_nodes, unreached}
+use Rattle.rules.specs.Columns.{Table, Arrays, table, arrays, rows_of, most_nodes, unreached}
 use Rattle.rules.specs.Refusals.{accepted, judge_tree}
 use Rattle.rules.proofs.OneOutcome.{number_accepts, number_refuses, tree_links}
 use Rattle.rules.proofs.Logic.{get_d_any}

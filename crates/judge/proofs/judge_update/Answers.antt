@@ -1,7 +1,7 @@
 -- `judge::judge_update` meets its contract: tree, rows and list are asked in the order of their numbers. Assumes nothing.
 use mathlib.Core.Path.{◌≡◌, sym, ◌∙◌}
 use mathlib.Core.List.{List}
-use Rattle.rules.specs.Columns.{Table, Arrays, Whole, table, arrays}
+use Rattle.rules.specs.Columns.{Table, Arrays, table, arrays}
 use Rattle.rules.specs.Refusals.{accepted, judge_tree, judge_batch}
 use Rattle.rules.specs.declared.Change.{Change}
 use Rattle.rules.proofs.OneOutcome.{number_accepts, number_refuses, tree_links}
