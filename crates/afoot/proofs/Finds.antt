@@ -6,13 +6,13 @@ use mathlib.Core.List.{List}
 use Prim.Native.Nat.{ℕ, ◌+◌, ◌≤◌, ◌<◌}
 use native.Mathlib.Omega.{arith}
 use native.Mathlib.Decide.{ℕ_discrete}
-use lib.ListN.{length, length-set}
+use lib.ListN.{length, set, length-set}
 use lib.Seq.{get_or-set_same, get_or-set_other}
 use Rattle.rules.specs.Net.{Net, Usable}
 use Rattle.rules.specs.Fit.{Tight}
 use Rattle.rules.specs.Columns.{most_nodes}
 use Rattle.level.specs.Level.{Level}
-use Rattle.queue.specs.Queue.{empty, Rekeyed}
+use Rattle.queue.specs.Queue.{empty}
 use Rattle.offer.specs.Offer.{dist_at, key_at, found_at, Lined, Offered, left, taken, Noted, passed, written, Lowered}
 use Rattle.offer.proofs.Laws.{waits_now}
 use Rattle.afoot.specs.Afoot.{Orderly, Every, NotFrom, Partly, Settled, Fallen, same, lower}
@@ -35,9 +35,9 @@ carries_still {N} {k = k} down still c =
     let less = down (N.start k) in
     record { usable = c.usable; ends_at = c.ends_at; reached = omega (arith, c.reached); enough = omega (arith, c.enough) }
 
-module _ {N : Net} (orderly : Orderly N) {done : ℕ → Type 0} {dist keys mins : List ℕ} (p : Partly N done dist keys mins)
+module _ {N : Net} (orderly : Orderly N) {done : ℕ → Type 0} {dist keys : List ℕ} (p : Partly N done dist keys)
     {k : ℕ} (is_link : k < N.links) {near : ℕ} (near_is : dist_at N dist (N.start k) ≡ near)
-    {dist' keys' mins' : List ℕ} (lined' : Lined N.mark dist' keys' mins') (o : Offered N k (near + N.cost k) dist keys dist' keys')
+    {dist' keys' : List ℕ} (lined' : Lined N.mark dist' keys') (o : Offered N k (near + N.cost k) dist keys dist' keys')
     {found found' : List ℕ} (long : length found ≡ most_nodes) (n : Noted N k (near + N.cost k) dist found found') where
   hears : (v : ℕ) → Hears N k near dist found dist' found' v
   hears v = at (ℕ_discrete v (N.end k)) o n
@@ -157,12 +157,12 @@ pub on_then : {N : Net} {done₀ done done' : ℕ → Type 0} {dist₀ keys₀ f
 on_then g h = record { long = h.long; on = λ old f. h.on old (g.on old f) }
 
 -- u is taken: of the links, only those that leave it aren't done
-pub on_taken : {N : Net} {dist keys found : List ℕ} {u : ℕ} {keys' mins' : List ℕ} → Rekeyed keys u empty keys' mins' → length found ≡ most_nodes
+pub on_taken : {N : Net} {dist keys found : List ℕ} {u : ℕ} {keys' : List ℕ} → keys' ≡ set keys u empty → length found ≡ most_nodes
     → GoesOn N Every dist keys found (NotFrom N u) dist keys' found
 on_taken {N} {dist} {keys} {found} {u} {keys'} r long = record { long = long; on = λ old f. on old f }
   where
     other_key : (v : ℕ) → v ≢ u → key_at keys' v ≡ key_at keys v
-    other_key v d = rw r.is_set (get_or-set_other keys u v empty empty d)
+    other_key v d = rw r (get_or-set_other keys u v empty empty d)
 
     on : (old : List ℕ) → Finding N Every old dist keys found → Finding N (NotFrom N u) old dist keys' found
     on old f =
@@ -188,7 +188,7 @@ finding_none none =
     }
 
 -- at the end a link that carries a reached node is tight
-pub carries_tight : {N : Net} → Level N → {dist keys mins : List ℕ} {k v : ℕ} (parent first : ℕ → ℕ) → Settled N dist keys mins → Brings N dist k v
+pub carries_tight : {N : Net} → Level N → {dist keys : List ℕ} {k v : ℕ} (parent first : ℕ → ℕ) → Settled N dist keys → Brings N dist k v
     → Tight N (record { dist = λ u. dist_at N dist u; parent = parent; first = first }) k v
 carries_tight {N} level {dist} {k = k} {v = v} parent first s b =
     let c = b.carries in
@@ -197,7 +197,7 @@ carries_tight {N} level {dist} {k = k} {v = v} parent first s b =
     rw (← c.ends_at) (s.sums.no_less k c.usable reached (omega (arith, b.comes, c.enough, level.level))) in
     record { usable = c.usable; ends_at = c.ends_at; from_reached = reached; sum = omega (arith, c.enough) }
 
-module _ {N : Net} (level : Level N) {dist keys mins : List ℕ} (s : Settled N dist keys mins) {old found : List ℕ}
+module _ {N : Net} (level : Level N) {dist keys : List ℕ} (s : Settled N dist keys) {old found : List ℕ}
     (f : Finding N Every old dist keys found) where
   found_all : Found N old dist found
   found_all =
@@ -217,6 +217,6 @@ module _ {N : Net} (level : Level N) {dist keys mins : List ℕ} (s : Settled N 
           let from : dist_at N dist (N.start j) < N.mark = omega (arith, a.from_reached, s.lined.most (N.start j)) in
           rw (← e) ((f.yields j a.usable tt).yields (s.none_waits (N.start j)) from (rw e a.sum) (rw e moved))
 
-pub comes : {N : Net} → Level N → {dist₀ keys₀ found₀ dist keys mins found : List ℕ} → Settled N dist keys mins
+pub comes : {N : Net} → Level N → {dist₀ keys₀ found₀ dist keys found : List ℕ} → Settled N dist keys
     → GoesOn N Every dist₀ keys₀ found₀ Every dist keys found → Comes N dist₀ keys₀ found₀ dist found
 comes level s g = record { long = g.long; comes = λ old f. found_all level s (g.on old f) }

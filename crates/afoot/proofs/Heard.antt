@@ -1,7 +1,7 @@
 -- The two loops that offer links before the loop proper: those into lifted nodes, and those of the rows. Assumes nothing.
-use mathlib.Core.Path.{◌≡◌, refl, sym}
+use mathlib.Core.Path.{◌≡◌, refl, sym, ◌∙◌}
 use mathlib.Core.Logic.{◌⊎◌, inl, inr, ◌≢◌}
-use mathlib.Core.Bool.{Bool, true, not}
+use mathlib.Core.Bool.{Bool, true, false}
 use mathlib.Core.List.{List}
 use Prim.Native.Nat.{ℕ, ◌+◌, ◌≤◌, ◌<◌}
 use native.Mathlib.Omega.{arith}
@@ -21,15 +21,15 @@ use Rattle.afoot.proofs.Rounds.{part_past}
 
 -- ---- one link
 
-module _ {N : Net} {done₀ done : ℕ → Type 0} {dist₀ keys₀ found₀ dist keys mins found : List ℕ}
-    (h : Heard N done₀ dist₀ keys₀ found₀ done dist keys mins found) {done' : ℕ → Type 0} where
-  pub heard_fewer : ((k : ℕ) → Usable N k → done' k → done k) → Heard N done₀ dist₀ keys₀ found₀ done' dist keys mins found
+module _ {N : Net} {done₀ done : ℕ → Type 0} {dist₀ keys₀ found₀ dist keys found : List ℕ}
+    (h : Heard N done₀ dist₀ keys₀ found₀ done dist keys found) {done' : ℕ → Type 0} where
+  pub heard_fewer : ((k : ℕ) → Usable N k → done' k → done k) → Heard N done₀ dist₀ keys₀ found₀ done' dist keys found
   heard_fewer f = record { partly = partly_fewer f h.partly; fell = h.fell; goes_on = on_fewer f h.goes_on }
 
   module _ {k : ℕ} (others : (j : ℕ) → done' j → j ≢ k → done j) where
     -- a link from an unreached node has nothing to offer
-    heard_far : N.mark ≤ dist_at N dist (N.start k) → {mins' : List ℕ} → Lined N.mark dist keys mins'
-        → Heard N done₀ dist₀ keys₀ found₀ done' dist keys mins' found
+    heard_far : N.mark ≤ dist_at N dist (N.start k) → Lined N.mark dist keys
+        → Heard N done₀ dist₀ keys₀ found₀ done' dist keys found
     heard_far far lined =
         record {
           partly = record {
@@ -52,8 +52,8 @@ module _ {N : Net} {done₀ done : ℕ → Type 0} {dist₀ keys₀ found₀ dis
             yields j u d (no n) = f.yields j u (others j d n)
 
     -- link k is done too
-    pub heard_more : Orderly N → k < N.links → {dist' keys' mins' found' : List ℕ} → Lined N.mark dist' keys' mins'
-        → Told N k dist keys found dist' keys' found' → Heard N done₀ dist₀ keys₀ found₀ done' dist' keys' mins' found'
+    pub heard_more : Orderly N → k < N.links → {dist' keys' found' : List ℕ} → Lined N.mark dist' keys'
+        → Told N k dist keys found dist' keys' found' → Heard N done₀ dist₀ keys₀ found₀ done' dist' keys' found'
     heard_more orderly link lined (unheard far d key f) = rw (d, key, f) (heard_far far (rw (d, key) at lined))
     heard_more orderly link lined (heard o n l) =
         record {
@@ -62,13 +62,13 @@ module _ {N : Net} {done₀ done : ℕ → Type 0} {dist₀ keys₀ found₀ dis
           goes_on = on_more orderly h.partly link refl lined o h.goes_on.long n h.goes_on others l;
         }
 
-pub heard_none : {N : Net} {done : ℕ → Type 0} {dist keys mins found : List ℕ} → Partly N done dist keys mins → length found ≡ most_nodes
-    → Heard N done dist keys found done dist keys mins found
+pub heard_none : {N : Net} {done : ℕ → Type 0} {dist keys found : List ℕ} → Partly N done dist keys → length found ≡ most_nodes
+    → Heard N done dist keys found done dist keys found
 heard_none p long = record { partly = p; fell = fell_none; goes_on = on_none long }
 
-pub heard_then : {N : Net} {done₀ done done' : ℕ → Type 0} {dist₀ keys₀ found₀ dist keys mins found dist' keys' mins' found' : List ℕ}
-    → Heard N done₀ dist₀ keys₀ found₀ done dist keys mins found → Heard N done dist keys found done' dist' keys' mins' found'
-    → Heard N done₀ dist₀ keys₀ found₀ done' dist' keys' mins' found'
+pub heard_then : {N : Net} {done₀ done done' : ℕ → Type 0} {dist₀ keys₀ found₀ dist keys found dist' keys' found' : List ℕ}
+    → Heard N done₀ dist₀ keys₀ found₀ done dist keys found → Heard N done dist keys found done' dist' keys' found'
+    → Heard N done₀ dist₀ keys₀ found₀ done' dist' keys' found'
 heard_then a b = record { partly = b.partly; fell = fell_then a.fell b.fell; goes_on = on_then a.goes_on b.goes_on }
 
 -- ---- the links into nodes without a first link
@@ -77,15 +77,15 @@ heard_then a b = record { partly = b.partly; fell = fell_then a.fell b.fell; goe
 abbrev pub Into : Net → List ℕ → List ℕ → List ℕ → ℕ → ℕ → Type 0
 Into N dist keys first k j = Calm N dist keys j ⊎ ((found_at N first (N.end j) ≡ N.none) × (j < k))
 
-pub calm_none : {N : Net} {dist keys mins found : List ℕ} → Seeded N dist keys mins → length found ≡ most_nodes
-    → Heard N (Calm N dist keys) dist keys found (Calm N dist keys) dist keys mins found
+pub calm_none : {N : Net} {dist keys found : List ℕ} → Seeded N dist keys → length found ≡ most_nodes
+    → Heard N (Calm N dist keys) dist keys found (Calm N dist keys) dist keys found
 calm_none b long = heard_none (record { begun = b; calm = λ k u c. c }) long
 
 module _ (N : Net) (dist keys first : List ℕ) where
   -- nothing was lifted
-  pub calm_only : {lifted : Bool} → not lifted ≡ true → (j : ℕ) → Usable N j → CalmOr N dist keys lifted first j → Calm N dist keys j
+  pub calm_only : {lifted : Bool} → lifted ≡ false → (j : ℕ) → Usable N j → CalmOr N dist keys lifted first j → Calm N dist keys j
   calm_only e j u (inl c) = c
-  calm_only e j u (inr f) = absurd (true_false (sym (rw f.0 at e)))
+  calm_only e j u (inr f) = absurd (true_false (sym f.0 ∙ e))
 
   pub into_none : (j : ℕ) → Usable N j → Into N dist keys first 0 j → Calm N dist keys j
   into_none j u (inl c) = c

@@ -48,7 +48,7 @@ fell_then {N} {dist} {keys} {dist'} {keys'} {dist''} {keys''} f g = record { eac
     at v (lower n d k) (same d' k') = lower n (omega arith) (rw d' (k' ∙ k))
     at v (lower n d k) (lower m d' k') = lower m (omega arith) k'
 
-module _ {N : Net} {dist keys mins : List ℕ} (h : Lined N.mark dist keys mins) where
+module _ {N : Net} {dist keys : List ℕ} (h : Lined N.mark dist keys) where
   fell_set : {end sum : ℕ} → end < most_nodes → sum < dist_at N dist end → Fell N dist keys (set dist end sum) (set keys end (key_of sum end))
   fell_set {end} {sum} is_node less = record { each = λ v. at v (ℕ_discrete v end) }
     where
@@ -56,7 +56,7 @@ module _ {N : Net} {dist keys mins : List ℕ} (h : Lined N.mark dist keys mins)
       here = get_or-set_same dist end sum N.mark (omega (arith, h.long))
 
       key_here : key_at (set keys end (key_of sum end)) end ≡ key_of sum end
-      key_here = get_or-set_same keys end (key_of sum end) empty (omega (arith, h.queue.keys_long))
+      key_here = get_or-set_same keys end (key_of sum end) empty (omega (arith, h.keys_long))
 
       at : (v : ℕ) → Dec (v ≡ end) → Fallen N dist keys (set dist end sum) (set keys end (key_of sum end)) v
       at v (yes e) = rw e (lower is_node (omega (arith, here)) (rw here key_here))
@@ -79,13 +79,13 @@ module _ {N : Net} {dist keys mins : List ℕ} (h : Lined N.mark dist keys mins)
       at (same d key) (lower n d' key') rest near = omega (arith, c.calm (sym key ∙ rest) (omega arith))
 
 -- fewer links are done
-pub partly_fewer : {N : Net} {done done' : ℕ → Type 0} {dist keys mins : List ℕ} → ((k : ℕ) → Usable N k → done' k → done k)
-    → Partly N done dist keys mins → Partly N done' dist keys mins
+pub partly_fewer : {N : Net} {done done' : ℕ → Type 0} {dist keys : List ℕ} → ((k : ℕ) → Usable N k → done' k → done k)
+    → Partly N done dist keys → Partly N done' dist keys
 partly_fewer f p = record { begun = p.begun; calm = λ k u d. p.calm k u (f k u d) }
 
-module _ {N : Net} (orderly : Orderly N) {done : ℕ → Type 0} {dist keys mins : List ℕ} (p : Partly N done dist keys mins)
+module _ {N : Net} (orderly : Orderly N) {done : ℕ → Type 0} {dist keys : List ℕ} (p : Partly N done dist keys)
     {k : ℕ} (is_link : k < N.links) {near : ℕ} (near_is : dist_at N dist (N.start k) ≡ near)
-    {dist' keys' mins' : List ℕ} (lined' : Lined N.mark dist' keys' mins')
+    {dist' keys' : List ℕ} (lined' : Lined N.mark dist' keys')
     (o : Offered N k (near + N.cost k) dist keys dist' keys') where
   pub link_fell : Fell N dist keys dist' keys'
   link_fell = offered_fell p.begun.lined (end_is_node orderly k is_link) o
@@ -113,7 +113,7 @@ module _ {N : Net} (orderly : Orderly N) {done : ℕ → Type 0} {dist keys mins
           let still : dist_at N dist' v ≡ dist_at N dist v = rw d (get_or-set_other dist (N.end k) v (near + N.cost k) N.mark n) in
           rw still (p.begun.walks v (omega arith))
 
-  begun_still : Seeded N dist' keys' mins'
+  begun_still : Seeded N dist' keys'
   begun_still = record { lined = lined'; root_zero = root_still (link_fell.each N.root); walks = walks_still o }
 
   -- the end has no more than was offered
@@ -134,7 +134,7 @@ module _ {N : Net} (orderly : Orderly N) {done : ℕ → Type 0} {dist keys mins
       at (lower n d key) rest l = absurd (waits_now lined'.mark_fits n l key rest)
 
   -- link k is done too
-  pub partly_more : {done' : ℕ → Type 0} → ((j : ℕ) → done' j → j ≢ k → done j) → Partly N done' dist' keys' mins'
+  pub partly_more : {done' : ℕ → Type 0} → ((j : ℕ) → done' j → j ≢ k → done j) → Partly N done' dist' keys'
   partly_more {done'} others = record { begun = begun_still; calm = λ j u d. at j u d (ℕ_discrete j k) }
     where
       at : (j : ℕ) → Usable N j → done' j → Dec (j ≡ k) → Calm N dist' keys' j

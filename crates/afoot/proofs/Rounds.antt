@@ -2,17 +2,16 @@
 use mathlib.Core.Path.{◌≡◌, sym, ◌∙◌}
 use mathlib.Core.Logic.{◌≢◌}
 use mathlib.Core.List.{List}
-use Prim.Native.Nat.{ℕ, ◌+◌, ◌%◌, ◌^◌, ◌≤◌, ◌<◌}
+use Prim.Native.Nat.{ℕ, ◌+◌, ◌^◌, ◌≤◌, ◌<◌}
 use native.Mathlib.Omega.{arith}
 use native.Mathlib.Decide.{dec_lt, ℕ_discrete}
-use lib.ListN.{length, get_or, set, replicate, length-replicate}
+use lib.ListN.{length, get_or, set, replicate, length-set, length-replicate, get_or-eq_default}
 use lib.Seq.{get_or-set_same, get_or-set_other}
 use Rattle.rules.specs.Net.{Net, Usable, at_root}
 use Rattle.rules.specs.Columns.{most_nodes}
 use Rattle.level.specs.Level.{Level}
 use Rattle.basics.proofs.Arrays.{rise}
-use Rattle.queue.specs.Queue.{empty, key_of, LeastKey, Rekeyed}
-use Rattle.queue.proofs.Laws.{least_key, queue_none}
+use Rattle.queue.specs.Queue.{empty, key_of, NoneWaits, Nearest}
 use Rattle.rules.proofs.Logic.{get_d_any}
 use Rattle.basics.proofs.Arrays.{filled}
 use Rattle.heads.specs.Heads.{Head}
@@ -43,19 +42,19 @@ part_past {N} orderly {u} {head} {k} f begins past j link e = at (dec_lt j k)
         absurd (past (omega arith) (omega (arith, from, to, f.leaves (omega arith))))
 
 -- the links that leave u are offered up to k, from u's distance `near`; the weight was `heavy` before them
-pub record Leaves (N : Net) (u first near heavy k : ℕ) (dist keys mins : List ℕ) : Type 0 where
+pub record Leaves (N : Net) (u first near heavy k : ℕ) (dist keys : List ℕ) : Type 0 where
   pub begins : first ≤ k
   pub within : k ≤ N.links
   pub near_is : dist_at N dist u ≡ near
-  pub partly : Partly N (λ j. N.start j ≡ u → j < k) dist keys mins
+  pub partly : Partly N (λ j. N.start j ≡ u → j < k) dist keys
   pub lighter : weight N dist keys ≤ heavy
 
-pub leaves_from : {N : Net} {u first near heavy k : ℕ} {dist keys mins : List ℕ} → Leaves N u first near heavy k dist keys mins
+pub leaves_from : {N : Net} {u first near heavy k : ℕ} {dist keys : List ℕ} → Leaves N u first near heavy k dist keys
     → {start : ℕ} → start ≡ u → dist_at N dist start ≡ near
 leaves_from h e = rw e h.near_is
 
-module _ {N : Net} {u first : ℕ} (f : Head N.links N.start u first) {dist keys mins : List ℕ} where
-  pub leaves_none : Taken N u dist keys mins → Leaves N u first (get_or dist u 0) (weight N dist keys) first dist keys mins
+module _ {N : Net} {u first : ℕ} (f : Head N.links N.start u first) {dist keys : List ℕ} where
+  pub leaves_none : Taken N u dist keys → Leaves N u first (get_or dist u 0) (weight N dist keys) first dist keys
   leaves_none t =
       let p = t.partly in
       record {
@@ -66,10 +65,10 @@ module _ {N : Net} {u first : ℕ} (f : Head N.links N.start u first) {dist keys
         lighter = omega arith;
       }
 
-  module _ (orderly : Orderly N) {near heavy k : ℕ} (h : Leaves N u first near heavy k dist keys mins) where
-    pub leaves_more : k < N.links → N.start k ≡ u → {dist' keys' mins' : List ℕ} → Lined N.mark dist' keys' mins'
+  module _ (orderly : Orderly N) {near heavy k : ℕ} (h : Leaves N u first near heavy k dist keys) where
+    pub leaves_more : k < N.links → N.start k ≡ u → {dist' keys' : List ℕ} → Lined N.mark dist' keys'
         → Offered N k (near + N.cost k) dist keys dist' keys'
-        → Leaves N u first near heavy (k + 1) dist' keys' mins'
+        → Leaves N u first near heavy (k + 1) dist' keys'
     leaves_more l leaves lined o =
         let from = leaves_from h leaves in
         record {
@@ -87,7 +86,7 @@ module _ {N : Net} {u first : ℕ} (f : Head N.links N.start u first) {dist keys
 
       pub leaves_all : {dist₀ keys₀ found₀ found : List ℕ} → weight N dist₀ keys₀ ≡ heavy
           → GoesOn N (NotFrom N u) dist₀ keys₀ found₀ (λ j. N.start j ≡ u → j < k) dist keys found
-          → Served N u dist₀ keys₀ found₀ dist keys mins found
+          → Served N u dist₀ keys₀ found₀ dist keys found
       leaves_all e g =
           record {
             afoot = partly_fewer leaves_done h.partly;
@@ -103,45 +102,41 @@ pub record Chosen (mark : ℕ) (dist keys : List ℕ) (u : ℕ) : Type 0 where
   pub near : get_or dist u mark < mark
   pub waiting : key_at keys u ≢ empty
 
-module _ {mark : ℕ} {dist keys mins : List ℕ} (h : Lined mark dist keys mins) {key : ℕ} (least : LeastKey mins key) where
-  pub chosen : key ≢ empty → Chosen mark dist keys (key % 256)
-  chosen some =
-      let s = least_key h.queue least in
-      let here = get_d_any keys s.place empty 0 (omega (arith, s.not_behind, h.queue.keys_long)) in
-      waiting s.place s.not_behind (here ∙ s.here) (h.keyed s.place)
+module _ {mark : ℕ} {dist keys : List ℕ} (h : Lined mark dist keys) where
+  pub chosen : {u : ℕ} {keys' : List ℕ} → Nearest keys u keys' → Chosen mark dist keys u
+  chosen {u} n = by (h.keyed u)
     where
-      waiting : (v : ℕ) → v < most_nodes → key_at keys v ≡ key → Keyed mark (get_or dist v mark) (key_at keys v) v → Chosen mark dist keys (key % 256)
-      waiting v n e (idle q) = absurd (some (sym e ∙ q))
-      waiting v n e (waits near q) =
-          let node : key % 256 ≡ v = omega arith in
-          rw node (record { is_node = n; near = near; waiting = λ q. some (sym e ∙ q) })
+      waiting : key_at keys u ≢ empty
+      waiting e = n.waits (get_d_any keys u 0 empty (omega (arith, n.is_node, h.keys_long)) ∙ e)
 
-  pub none_waits : key ≡ empty → (v : ℕ) → key_at keys v ≡ empty
-  none_waits none v = at (h.keyed v)
+      by : Keyed mark (get_or dist u mark) (key_at keys u) u → Chosen mark dist keys u
+      by (idle e) = absurd (waiting e)
+      by (waits near e) = record { is_node = n.is_node; near = near; waiting = waiting }
+
+  pub none_waits : NoneWaits keys → (v : ℕ) → key_at keys v ≡ empty
+  none_waits none v = at (dec_lt v most_nodes)
     where
-      at : Keyed mark (get_or dist v mark) (key_at keys v) v → key_at keys v ≡ empty
-      at (idle e) = e
-      at (waits near e) =
-          let n = inside h v near in
-          absurd (omega (arith, (least_key h.queue least).low v (omega arith) n, get_d_any keys v empty 0 (omega (arith, h.queue.keys_long))))
+      at : Dec (v < most_nodes) → key_at keys v ≡ empty
+      at (yes n) = get_d_any keys v empty 0 (omega (arith, h.keys_long)) ∙ none v n
+      at (no n) = get_or-eq_default keys empty (omega (arith, h.keys_long))
 
 -- u is taken: of the links, only those that leave it aren't done
-module _ {N : Net} {dist keys mins : List ℕ} (p : Afoot N dist keys mins) {u : ℕ} (c : Chosen N.mark dist keys u) {keys' mins' : List ℕ}
-    (r : Rekeyed keys u empty keys' mins') where
+module _ {N : Net} {dist keys : List ℕ} (p : Afoot N dist keys) {u : ℕ} (c : Chosen N.mark dist keys u) {keys' : List ℕ}
+    (r : keys' ≡ set keys u empty) where
   in_keys : u < length keys
-  in_keys = omega (arith, c.is_node, p.begun.lined.queue.keys_long)
+  in_keys = omega (arith, c.is_node, p.begun.lined.keys_long)
 
   other_key : (v : ℕ) → v ≢ u → key_at keys' v ≡ key_at keys v
-  other_key v d = rw r.is_set (get_or-set_other keys u v empty empty d)
+  other_key v d = rw r (get_or-set_other keys u v empty empty d)
 
-  partly_taken : Partly N (NotFrom N u) dist keys' mins'
+  partly_taken : Partly N (NotFrom N u) dist keys'
   partly_taken =
       record {
         begun = record {
           lined = record {
             mark_fits = p.begun.lined.mark_fits;
-            queue = r.queue;
             long = p.begun.lined.long;
+            keys_long = rw (r, length-set) p.begun.lined.keys_long;
             most = p.begun.lined.most;
             keyed = λ v. keyed v (ℕ_discrete v u);
           };
@@ -152,22 +147,21 @@ module _ {N : Net} {dist keys mins : List ℕ} (p : Afoot N dist keys mins) {u :
       }
     where
       keyed : (v : ℕ) → Dec (v ≡ u) → Keyed N.mark (dist_at N dist v) (key_at keys' v) v
-      keyed v (yes e) = idle (rw (e, r.is_set) (get_or-set_same keys u empty empty in_keys))
+      keyed v (yes e) = idle (rw (e, r) (get_or-set_same keys u empty empty in_keys))
       keyed v (no d) = rw (other_key v d) (p.begun.lined.keyed v)
 
-  pub node_taken : Taken N u dist keys' mins'
+  pub node_taken : Taken N u dist keys'
   node_taken = record { partly = partly_taken; near = c.near }
 
   pub lighter : weight N dist keys' < weight N dist keys
-  lighter = rw r.is_set (weight_taken N dist keys u in_keys c.waiting c.is_node)
+  lighter = rw r (weight_taken N dist keys u in_keys c.waiting c.is_node)
 
-pub settled : {N : Net} → Level N → {dist keys mins : List ℕ} {key : ℕ} → Afoot N dist keys mins → LeastKey mins key → key ≡ empty
-    → Settled N dist keys mins
-settled {N} level {dist} {keys} {mins} {key} p least none =
+pub settled : {N : Net} → Level N → {dist keys : List ℕ} → Afoot N dist keys → NoneWaits keys → Settled N dist keys
+settled {N} level {dist} {keys} p none =
     record { sums = sums sure level; lined = p.begun.lined; none_waits = rest }
   where
     rest : (v : ℕ) → key_at keys v ≡ empty
-    rest = none_waits p.begun.lined least none
+    rest = none_waits p.begun.lined none
 
     sure : Sure N (λ v. dist_at N dist v)
     sure = record {
@@ -181,34 +175,34 @@ settled {N} level {dist} {keys} {mins} {key} p least none =
 
 -- nothing waits
 pub lined_none : {mark : ℕ} {dist : List ℕ} → mark < 2 ^ 32 → length dist ≡ most_nodes → ((v : ℕ) → get_or dist v mark ≤ mark)
-    → Lined mark dist (replicate most_nodes empty) (replicate 72 empty)
+    → Lined mark dist (replicate most_nodes empty)
 lined_none fits long most =
-    record { mark_fits = fits; queue = queue_none; long = long; most = most; keyed = λ v. idle (filled most_nodes empty v) }
+    record { mark_fits = fits; long = long; keys_long = length-replicate most_nodes empty; most = most; keyed = λ v. idle (filled most_nodes empty v) }
 
 -- only the root is reached, and waits
-pub record Alone (N : Net) (dist keys mins : List ℕ) : Type 0 where
-  pub afoot : Afoot N dist keys mins
+pub record Alone (N : Net) (dist keys : List ℕ) : Type 0 where
+  pub afoot : Afoot N dist keys
   pub far : (v : ℕ) → v ≢ N.root → dist_at N dist v ≡ N.mark
 
-module _ (N : Net) (is_node : N.root < most_nodes) (fits : N.mark < 2 ^ 32) (far_off : 0 < N.mark) {keys' mins' : List ℕ}
-    (r : Rekeyed (replicate most_nodes empty) N.root (key_of 0 N.root) keys' mins') where
+module _ (N : Net) (is_node : N.root < most_nodes) (fits : N.mark < 2 ^ 32) (far_off : 0 < N.mark) {keys' : List ℕ}
+    (r : keys' ≡ set (replicate most_nodes empty) N.root (key_of 0 N.root)) where
   abbrev blank : List ℕ
   blank = replicate most_nodes N.mark
 
   no_one : (v : ℕ) → dist_at N blank v ≡ N.mark
   no_one v = filled most_nodes N.mark v
 
-  lined_blank : Lined N.mark blank (replicate most_nodes empty) (replicate 72 empty)
+  lined_blank : Lined N.mark blank (replicate most_nodes empty)
   lined_blank = lined_none fits (length-replicate most_nodes N.mark) (λ v. omega (arith, no_one v))
 
-  lined_seed : Lined N.mark (set blank N.root 0) keys' mins'
-  lined_seed = lined_taken lined_blank is_node (omega (arith, entry lined_blank is_node, no_one N.root)) r
+  lined_seed : Lined N.mark (set blank N.root 0) keys'
+  lined_seed = rw r (lined_taken lined_blank is_node (omega (arith, entry lined_blank is_node, no_one N.root)))
 
   root_zero : dist_at N (set blank N.root 0) N.root ≡ 0
   root_zero = get_or-set_same blank N.root 0 N.mark (omega (arith, lined_blank.long))
 
   root_waits : key_at keys' N.root ≡ key_of 0 N.root
-  root_waits = rw r.is_set (get_or-set_same (replicate most_nodes empty) N.root (key_of 0 N.root) empty (omega (arith, lined_blank.queue.keys_long)))
+  root_waits = rw r (get_or-set_same (replicate most_nodes empty) N.root (key_of 0 N.root) empty (omega (arith, lined_blank.keys_long)))
 
   others_far : (v : ℕ) → v ≢ N.root → dist_at N (set blank N.root 0) v ≡ N.mark
   others_far v d = get_or-set_other blank N.root v 0 N.mark d ∙ no_one v
@@ -220,7 +214,7 @@ module _ (N : Net) (is_node : N.root < most_nodes) (fits : N.mark < 2 ^ 32) (far
       at (yes e) = e
       at (no d) = absurd (omega (arith, others_far v d))
 
-  pub alone : Alone N (set blank N.root 0) keys' mins'
+  pub alone : Alone N (set blank N.root 0) keys'
   alone =
       record {
         afoot = record {

@@ -26,8 +26,8 @@ pub record Within (N : Net) (v distance : ℕ) : Type 0 where
   pub within : sum ≤ distance
 
 -- no distance is too small
-pub record Seeded (N : Net) (dist keys mins : List ℕ) : Type 0 where
-  pub lined : Lined N.mark dist keys mins
+pub record Seeded (N : Net) (dist keys : List ℕ) : Type 0 where
+  pub lined : Lined N.mark dist keys
   pub root_zero : dist_at N dist N.root ≡ 0
   pub walks : (v : ℕ) → dist_at N dist v < N.mark → Within N v (dist_at N dist v)
 
@@ -37,8 +37,8 @@ pub record Calm (N : Net) (dist keys : List ℕ) (k : ℕ) : Type 0 where
       → dist_at N dist (N.end k) ≤ dist_at N dist (N.start k) + N.cost k
 
 -- besides, of the links that are done only a waiting node's may have something less to offer
-pub record Partly (N : Net) (done : ℕ → Type 0) (dist keys mins : List ℕ) : Type 0 where
-  pub begun : Seeded N dist keys mins
+pub record Partly (N : Net) (done : ℕ → Type 0) (dist keys : List ℕ) : Type 0 where
+  pub begun : Seeded N dist keys
   pub calm : (k : ℕ) → Usable N k → done k → Calm N dist keys k
 
 -- which links are done: every one, every one that doesn't leave u, or every one that no row from the i-th on may have made
@@ -65,13 +65,13 @@ Untouched N rows i k = (m : ℕ) → i ≤ m → m < length rows → ¬ (Touches
 pub record Naming (links : ℕ) (rows : List ℕ) : Type 0 where
   pub named : (m : ℕ) → m < length rows → get_or rows m 0 < links
 
-abbrev pub Afoot : Net → List ℕ → List ℕ → List ℕ → Type 0
-Afoot N dist keys mins = Partly N Every dist keys mins
+abbrev pub Afoot : Net → List ℕ → List ℕ → Type 0
+Afoot N dist keys = Partly N Every dist keys
 
 -- nothing waits, and the distances are the least sums
-pub record Settled (N : Net) (dist keys mins : List ℕ) : Type 0 where
+pub record Settled (N : Net) (dist keys : List ℕ) : Type 0 where
   pub sums : Sums N (λ v. dist_at N dist v)
-  pub lined : Lined N.mark dist keys mins
+  pub lined : Lined N.mark dist keys
   pub none_waits : (v : ℕ) → key_at keys v ≡ empty
 
 -- v is as before, or waits with a smaller distance

@@ -56,19 +56,19 @@ pub record GoesOn (N : Net) (done : ℕ → Type 0) (dist keys found : List ℕ)
   pub on : (old : List ℕ) → Finding N done old dist keys found → Finding N done' old dist' keys' found'
 
 -- u is reached and was taken: the links that leave it are yet to be offered
-pub record Taken (N : Net) (u : ℕ) (dist keys mins : List ℕ) : Type 0 where
-  pub partly : Partly N (NotFrom N u) dist keys mins
+pub record Taken (N : Net) (u : ℕ) (dist keys : List ℕ) : Type 0 where
+  pub partly : Partly N (NotFrom N u) dist keys
   pub near : dist_at N dist u < N.mark
 
 -- they are offered: every link is done, no weight was gained, and what is known goes on
-pub record Served (N : Net) (u : ℕ) (dist keys found dist' keys' mins' found' : List ℕ) : Type 0 where
-  pub afoot : Afoot N dist' keys' mins'
+pub record Served (N : Net) (u : ℕ) (dist keys found dist' keys' found' : List ℕ) : Type 0 where
+  pub afoot : Afoot N dist' keys'
   pub lighter : weight N dist' keys' ≤ weight N dist keys
   pub goes_on : GoesOn N (NotFrom N u) dist keys found Every dist' keys' found'
 
 -- more links are done, and what is known goes on
-pub record Heard (N : Net) (done : ℕ → Type 0) (dist keys found : List ℕ) (done' : ℕ → Type 0) (dist' keys' mins' found' : List ℕ) : Type 0 where
-  pub partly : Partly N done' dist' keys' mins'
+pub record Heard (N : Net) (done : ℕ → Type 0) (dist keys found : List ℕ) (done' : ℕ → Type 0) (dist' keys' found' : List ℕ) : Type 0 where
+  pub partly : Partly N done' dist' keys'
   pub fell : Fell N dist keys dist' keys'
   pub goes_on : GoesOn N done dist keys found done' dist' keys' found'
 

@@ -1,45 +1,53 @@
--- What the tests of a row decide, and the pass over the rows, one row further. Assumes nothing.
+-- What the tests of a row decide. Assumes nothing.
 use mathlib.Core.Path.{◌≡◌, refl, sym, ◌∙◌}
 use mathlib.Core.Logic.{◌≢◌}
 use mathlib.Core.Bool.{Bool, true, false, ◌&&◌, and-true, and-false, true≢false}
-use mathlib.Core.List.{List}
-use Prim.Native.Nat.{ℕ, ◌+◌, ◌≤◌, ◌<◌}
-use native.Mathlib.Omega.{arith}
+use Prim.Native.Nat.{ℕ, ◌≤◌, ◌<◌}
 use native.Mathlib.Decide.{ℕ_discrete}
 use lib.Dec.{eqb, ltb}
 use lib.ListN.{length, get_or}
-use borrow.Author.Count.{below_more}
 use borrow.Author.Tests.{lt-ltb, le-ltb, eq-eqb, ne_eqb}
 use Rattle.rules.specs.Net.{Net}
 use Rattle.rules.specs.Fit.{Rows}
 use Rattle.rules.specs.Tests.{usable}
 use Rattle.rules.specs.Keep.{one}
-use Rattle.rules.specs.Columns.{Table, Proper, net_in, some_leads, most_nodes, no_link}
+use Rattle.rules.specs.Columns.{Table, Proper, Arrays, Whole, net_in, rows_in, some_leads, most_nodes, no_link}
 use Rattle.rules.specs.declared.Profile.{Profile}
 use Rattle.usable.proofs.Reading.{start_has_row, read_row}
 use Rattle.backed.specs.Backed.{usable_by}
-use Rattle.alone.specs.Alone.{empty_at, tight_by, first_of, hung_by, hung_alone, row_alone, RightBefore}
+use Rattle.alone.specs.Alone.{empty_at, tight_by, first_of, hung_by, hung_alone, row_alone}
 
--- what is read of a link, of its start and of a node decides
-module _ (p : Profile) {t : Table} (proper : Proper t) (ds : List ℕ) (long : length ds ≡ most_nodes) {k : ℕ} (is_link : k < length t.starts) where
-  pub hung_by_reads : (fs : List ℕ) → length fs ≡ most_nodes → (v : ℕ) → v < most_nodes
-      → hung_by (net_in p t) (λ u. get_or ds u p.mark) (λ u. get_or fs u no_link) k v
-      ≡ (tight_by p.mark v (get_or ds v 0) (get_or t.ends k 0) (get_or t.costs k 0) (get_or ds (get_or t.starts k 0) 0)
-      && eqb (get_or fs v 0) (first_of t.root k (get_or t.starts k 0) (get_or fs (get_or t.starts k 0) 0)) && usable (net_in p t) k)
+-- a row as it is read
+module _ (p : Profile) {tree : Arrays} (whole : Whole tree) {v : ℕ} (has_row : v < most_nodes) where
+  pub dist_read : get_or tree.dist v 0 ≡ (rows_in p tree).dist v
+  dist_read = read_row tree.dist whole.dist v p.mark has_row
+
+  pub parent_read : get_or tree.parent v 0 ≡ (rows_in p tree).parent v
+  parent_read = read_row tree.parent whole.parent v no_link has_row
+
+  pub first_read : get_or tree.first v 0 ≡ (rows_in p tree).first v
+  first_read = read_row tree.first whole.first v no_link has_row
+
+module _ {t : Table} (proper : Proper t) {k : ℕ} (is_link : k < length t.starts) where
+  -- what is read of a link, of its start and of a node decides
+  pub hung_by_reads : (p : Profile) {tree : Arrays} (whole : Whole tree) {v : ℕ} → v < most_nodes
+      → hung_by (net_in p t) (rows_in p tree).dist (rows_in p tree).first k v
+      ≡ (tight_by p.mark v (get_or tree.dist v 0) (get_or t.ends k 0) (get_or t.costs k 0) (get_or tree.dist (get_or t.starts k 0) 0)
+      && eqb (get_or tree.first v 0) (first_of t.root k (get_or t.starts k 0) (get_or tree.first (get_or t.starts k 0) 0)) && usable (net_in p t) k)
   unfolding hung_by
-  hung_by_reads fs firsts v has_row =
+  hung_by_reads p whole has_row =
       rw (
-        read_row ds long (get_or t.starts k 0) p.mark (start_has_row proper is_link),
-        read_row ds long v p.mark has_row,
-        read_row fs firsts (get_or t.starts k 0) no_link (start_has_row proper is_link),
-        read_row fs firsts v no_link has_row,
+        dist_read p whole (start_has_row proper is_link),
+        dist_read p whole has_row,
+        first_read p whole (start_has_row proper is_link),
+        first_read p whole has_row,
       )
 
   -- a link is usable by the mark of its end
-  pub usable_marked : {v mark : ℕ} → get_or t.ends k 0 ≡ v → mark ≡ one (some_leads t v (get_or t.starts k 0))
+  pub usable_marked : (p : Profile) {v mark : ℕ} → get_or t.ends k 0 ≡ v → mark ≡ one (some_leads t v (get_or t.starts k 0))
       → usable_by mark (get_or t.costs k 0) ≡ usable (net_in p t) k
   unfolding usable
-  usable_marked {v} {mark} ends is = by (some_leads t v (get_or t.starts k 0)) refl
+  usable_marked p {v} {mark} ends is = by (some_leads t v (get_or t.starts k 0)) refl
     where
       by : (b : Bool) → b ≡ some_leads t v (get_or t.starts k 0) → usable_by mark (get_or t.costs k 0)
           ≡ (ltb k (length t.starts) && ltb 0 (get_or t.costs k 0) && some_leads t (get_or t.ends k 0) (get_or t.starts k 0))
@@ -95,12 +103,3 @@ module _ (N : Net) (r : Rows) (v : ℕ) where
   pub row_hung : {b : Bool} → b ≡ hung_alone N r v → v ≢ N.root → r.dist v ≢ N.mark → b ≡ row_alone N r v
   unfolding row_alone
   row_hung is off_root near = rw (ne_eqb v N.root off_root, ne_eqb (r.dist v) N.mark near) is
-
--- ---- the pass over the rows, one row further
-
-pub right_none : (N : Net) (r : Rows) → RightBefore N r 0
-right_none N r = record { right = λ u l. absurd (omega arith) }
-
-pub right_more : {N : Net} {r : Rows} {v : ℕ} {b : Bool} → RightBefore N r v → b ≡ row_alone N r v → b ≡ true
-    → RightBefore N r (v + 1)
-right_more {N} {r} {v} h is passes = record { right = below_more (λ (u : ℕ). row_alone N r u ≡ true) v h.right (cc) }

@@ -1,5 +1,5 @@
 -- The pass over the rows: which are right by themselves, what links offer left aside. Assumes nothing.
-use Rattle.std.specs.Prelude.{◌≡◌, Bool, true, false, ◌&&◌, not, ℕ, ◌+◌, ◌≤◌, ◌<◌}
+use Rattle.std.specs.Prelude.{◌≡◌, Bool, true, false, ◌&&◌, not, ℕ, Option, None, Some, ◌+◌, ◌≤◌, ◌<◌}
 use Rattle.std.proofs.Math.Bool.{cond}
 use Rattle.std.proofs.Math.Dec.{eqb, ltb}
 use Rattle.rules.specs.Net.{Net}
@@ -49,3 +49,8 @@ module _ (N : Net) (r : Rows) where
     pub within : v ≤ most_nodes
     pub before : RightBefore v
     pub wrong : v < most_nodes → row_alone v ≡ false
+
+  -- the same as an answer: the node, or none
+  abbrev pub FirstWrongOf : Option ℕ → Type 0
+  FirstWrongOf None = FirstWrong most_nodes
+  FirstWrongOf (Some v) = (v < most_nodes) × FirstWrong v

@@ -3,12 +3,11 @@ use mathlib.Core.Path.{◌≡◌, refl, sym, ◌∙◌}
 use mathlib.Core.Logic.{◌≢◌}
 use mathlib.Core.Bool.{Bool, true, false}
 use mathlib.Core.List.{List}
-use Prim.Native.Nat.{ℕ, ◌+◌, ◌*◌, ◌<◌}
+use Prim.Native.Nat.{ℕ, ◌<◌}
 use native.Mathlib.Omega.{arith}
 use native.Mathlib.Decide.{ℕ_discrete}
-use lib.ListN.{length, get_or, set, replicate, length-set, length-replicate, get_or-replicate}
+use lib.ListN.{get_or, set, replicate, length-set, length-replicate, get_or-replicate}
 use lib.Seq.{get_or-set_same, get_or-set_other}
-use Rattle.rules.specs.Keep.{one}
 use Rattle.rules.specs.Columns.{Table, most_nodes, no_link, some_leads}
 use Rattle.asked.specs.Asked.{kept, Kept}
 

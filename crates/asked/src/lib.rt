@@ -3,37 +3,31 @@
 #![tactic(auto)]
 
 ghost use Rattle.std.specs.Prelude.{◌≡◌, ◌<◌, length};
-ghost use Rattle.rules.specs.Columns.{Proper, most_nodes, some_leads};
+ghost use Rattle.rules.specs.Columns.{most_nodes, some_leads};
 ghost use Rattle.rules.specs.Tests.{usable};
-ghost use Rattle.heads.specs.Heads.{HeadIn, Heads};
+ghost use Rattle.heads.specs.Heads.{HeadIn};
 ghost use Rattle.usable.specs.Standing.{table_at, net_at};
 ghost use Rattle.asked.specs.Asked.{kept, Kept};
 
-use rules::Profile;
+use usable::{Net, Table};
 
 // An answer as it is kept.
 fn kept(start: u16, answer: bool) -> u16
     requires { start < most_nodes }
     ensures { result ≡ kept start answer }
 {
-    if answer { start * 2 + 1 } else { start * 2 }
+    start * 2 + u16::from(answer)
 }
 
-// Some link that is up leads from `end` to `start`.
-fn leads_back(
-    nodes: usize,
-    root: usize,
-    starts: &[u16],
-    ends: &[u16],
-    narrow: &[u16],
-    wide: &[u32],
-    head: u16,
-    asked: &mut [u16; 256],
-    start: u16,
-    end: u16,
-) -> bool
-    requires { Proper (table_at nodes root starts.now ends.now narrow.now wide.now) × Kept (table_at nodes root starts.now ends.now narrow.now wide.now) asked.old × (start < most_nodes) × (end < most_nodes) × HeadIn starts.now end head }
-    ensures { (result ≡ some_leads (table_at nodes root starts.now ends.now narrow.now wide.now) end start) × Kept (table_at nodes root starts.now ends.now narrow.now wide.now) asked.new }
+// Some link that is up leads from `end` to `start`. The answers kept are a plain array, and `Kept` is a clause: a struct that held
+// the table beside them would have to say at each call that the table stays, a clause for a clause.
+fn leads_back(table: &Table, head: u16, asked: &mut [u16; 256], start: u16, end: u16) -> bool
+    requires kept { Kept (table_at table.now) asked.old }
+    requires start { start < most_nodes }
+    requires end { end < most_nodes }
+    requires head { HeadIn table.now.starts.now end head }
+    ensures leads { result ≡ some_leads (table_at table.now) end start }
+    ensures kept { Kept (table_at table.now) asked.new }
 {
     let node = end as usize;
     let last = asked[node];
@@ -43,33 +37,25 @@ fn leads_back(
     if last == kept(start, false) {
         return false;
     }
-    let answer = usable::some_leads(nodes, root, starts, ends, narrow, wide, head, end, start);
+    let answer = table.some_leads(head, end, start);
     asked[node] = kept(start, answer);
     answer
 }
 
 // Link k is usable.
-pub fn usable(
-    profile: Profile,
-    nodes: usize,
-    root: usize,
-    starts: &[u16],
-    ends: &[u16],
-    narrow: &[u16],
-    wide: &[u32],
-    at: &[u16; 256],
-    asked: &mut [u16; 256],
-    k: usize,
-) -> bool
-    requires { Proper (table_at nodes root starts.now ends.now narrow.now wide.now) × Heads starts.now at.now × Kept (table_at nodes root starts.now ends.now narrow.now wide.now) asked.old × (k < length starts.now) }
-    ensures { (result ≡ usable (net_at profile nodes root starts.now ends.now narrow.now wide.now) k) × Kept (table_at nodes root starts.now ends.now narrow.now wide.now) asked.new }
+pub fn usable(net: &Net, asked: &mut [u16; 256], k: usize) -> bool
+    requires kept { Kept (table_at net.now.table) asked.old }
+    requires link { k < length net.now.table.starts.now }
+    ensures usable { result ≡ usable (net_at net.now.table) k }
+    ensures kept { Kept (table_at net.now.table) asked.new }
 {
-    if usable::up(narrow, wide, k) {
-        let end = ends[k];
-        let node = end as usize;
-        return leads_back(
-            nodes, root, starts, ends, narrow, wide, at[node], asked, starts[k], end,
-        );
-    }
-    false
+    let table = &net.table;
+    table.up(k)
+        && leads_back(
+            table,
+            net.at[table.end(k)],
+            asked,
+            table.starts[k],
+            table.ends[k],
+        )
 }

@@ -3,41 +3,23 @@ use mathlib.Core.Path.{◌≡◌, refl, sym, ◌∙◌}
 use mathlib.Core.Logic.{◌≢◌}
 use mathlib.Core.Bool.{Bool, true, false, ◌&&◌, ◌||◌, cond}
 use mathlib.Core.List.{List}
-use Prim.Native.Nat.{ℕ, zero, suc, ◌+◌, ◌≤◌, ◌<◌}
+use Prim.Native.Nat.{ℕ, suc, ◌+◌, ◌≤◌, ◌<◌}
 use native.Mathlib.Omega.{arith}
 use native.Mathlib.Decide.{ℕ_discrete}
 use lib.Dec.{eqb, ltb}
 use lib.ListN.{length, get_or, set, replicate, length-set, length-replicate, get_or-replicate}
 use lib.Seq.{get_or-set_same, get_or-set_other}
-use borrow.Author.Count.{below_more}
-use borrow.Author.Tests.{eq-eqb, ne_eqb, lt-ltb, le-ltb}
+use borrow.Author.Tests.{eq-eqb, ne_eqb, lt-ltb}
 use Rattle.rules.specs.Tests.{some}
 use Rattle.rules.specs.Keep.{one}
 use Rattle.rules.specs.Columns.{Table, most_nodes, leads, some_leads}
-use Rattle.backed.specs.Backed.{above, Above, LedBack, no_node}
+use Rattle.backed.specs.Backed.{above, Above, LedBack}
 
 -- ---- the nodes above
 
 pub above_link : (starts : List ℕ) (link : ℕ) → link < length starts → get_or starts link 0 ≡ above starts link
 unfolding above
 above_link starts link l = rw (lt-ltb link (length starts) l)
-
-pub above_none : (starts : List ℕ) (link : ℕ) → length starts ≤ link → no_node ≡ above starts link
-unfolding above
-above_none starts link l = rw (le-ltb link (length starts) l)
-
-module _ {starts parent : List ℕ} where
-  pub no_above : Above starts parent 0 (replicate most_nodes no_node)
-  no_above = record { long = length-replicate {A = ℕ} most_nodes no_node; each = λ v l. absurd (omega arith) }
-
-  pub one_above_more : {n u : ℕ} {up : List ℕ} → Above starts parent n up → n < most_nodes → u ≡ above starts (get_or parent n 0)
-      → Above starts parent (n + 1) (set up n u)
-  one_above_more {n} {u} {up} h l e = record {
-    long = length-set up n u ∙ h.long;
-    each = below_more (λ (v : ℕ). get_or (set up n u) v 0 ≡ above starts (get_or parent v 0)) n
-        (λ v m. get_or-set_other up n v u 0 (omega arith) ∙ h.each v m)
-        (get_or-set_same up n u 0 (omega (arith, h.long)) ∙ e);
-  }
 
 -- ---- the marks
 
@@ -86,11 +68,6 @@ module _ (t : Table) (up : List ℕ) where
         by v l (no n) =
             rw (more (leads t v (get_or up v 0)), ne_eqb (get_or t.starts k 0) v (λ e. n (sym e)))
             (get_or-set_other marks at v 1 0 (apart hit at is v l n) ∙ h.each v l)
-
--- nobody reads the place past the last node
-pub place_low : (b : Bool) (from at : ℕ) → from < most_nodes → at ≡ cond b from most_nodes → at < 257
-place_low true from at l is = omega arith
-place_low false from at l is = omega arith
 
 pub led : {t : Table} {parent up marks : List ℕ} → Above t.starts parent most_nodes up → MarkedBy t up (length t.starts) marks → LedBack t parent marks
 unfolding some_leads

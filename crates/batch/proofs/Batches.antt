@@ -11,8 +11,7 @@ use borrow.Author.Tests.{lt-ltb, leb-false}
 use Rattle.rules.specs.Tests.{first_below}
 use Rattle.rules.specs.Columns.{Table, Arrays}
 use Rattle.rules.specs.Refusals.{accepted, link_at, names_no_link, names_again, first_bad_row, judge_rows, judge_tree, judge_batch}
-use Rattle.rules.specs.Answers.{told}
-use Rattle.rules.specs.declared.Answer.{Answer}
+use Rattle.rules.specs.Answers.{Answer, told}
 use Rattle.rules.specs.declared.Change.{Change}
 use Rattle.rules.proofs.Logic.{First, first_of, true_false}
 use Rattle.rules.proofs.Judged.{not_refused}

@@ -7,33 +7,34 @@ use native.Mathlib.Omega.{arith}
 use native.Mathlib.Nat.{not-suc-le-zero, le_of_suc-le-suc}
 use native.Mathlib.Numerals.{add-one}
 use lib.Dec.{eqb, ltb, leb}
-use lib.ListN.{length, get_or, set, drop, replicate, length-set, drop_of_length-le}
+use lib.ListN.{length, get_or, set, drop, length-set, drop_of_length-le}
 use lib.Seq.{drop-cons}
 use borrow.Author.Count.{below_none, below_more}
 use borrow.Author.Tests.{lt-ltb, le-ltb, le-leb, lt-leb, eq-eqb, ne_eqb}
 use Rattle.rules.specs.Columns.{Table, applied, most_rows}
+use Rattle.std.specs.Prelude.{Ok, Err, min}
 use Rattle.rules.specs.Refusals.{earliest, link_at, names_no_link, names_again, first_bad_row, judge_rows}
 use Rattle.rules.specs.declared.Change.{Change}
-use Rattle.rules.specs.declared.Answer.TheVariants.{Accepted, TooManyRows, RowNamesNoLink, RowNamesLinkAgain}
+use Rattle.rules.specs.declared.Refusal.TheVariants.{TooManyRows, RowNamesNoLink, RowNamesLinkAgain}
 use Rattle.rules.proofs.Logic.{First, first_is, or-false}
-use Rattle.batch.specs.Rows.{rows_of_columns, RowsJudged, BatchJudged}
-use Rattle.threads.specs.Threads.{thread_count, Threaded, Earliest}
-use Rattle.threads.proofs.Laws.{threaded_none}
+use Rattle.batch.specs.Rows.{rows_of_columns, rows_of, change_at, RowsJudged, BatchJudged, Named}
+use Rattle.batch.specs.declared.Columns.{Columns}
+use Rattle.threads.specs.Threads.{Threaded, Earliest}
+use Rattle.threads.specs.declared.Threads.{Threads}
 
 -- ---- two columns
 
-pub links_fewer : (links costs : List ℕ) → length links ≤ length costs → length (rows_of_columns links costs) ≡ length links
+pub rows_long : (links costs : List ℕ) → length (rows_of_columns links costs) ≡ min (length links) (length costs)
 unfolding rows_of_columns
-links_fewer [] costs l = refl
-links_fewer (link ∷ links) [] l = absurd (not-suc-le-zero l)
-links_fewer (link ∷ links) (cost ∷ costs) l = ap suc (links_fewer links costs (le_of_suc-le-suc l))
+rows_long [] costs = omega arith
+rows_long (link ∷ links) [] = omega arith
+rows_long (link ∷ links) (cost ∷ costs) = omega (arith, rows_long links costs)
+
+pub links_fewer : (links costs : List ℕ) → length links ≤ length costs → length (rows_of_columns links costs) ≡ length links
+links_fewer links costs l = omega (arith, rows_long links costs)
 
 pub costs_fewer : (links costs : List ℕ) → length costs ≤ length links → length (rows_of_columns links costs) ≡ length costs
-unfolding rows_of_columns
-costs_fewer [] [] l = refl
-costs_fewer [] (cost ∷ costs) l = absurd (not-suc-le-zero l)
-costs_fewer (link ∷ links) [] l = refl
-costs_fewer (link ∷ links) (cost ∷ costs) l = ap suc (costs_fewer links costs (le_of_suc-le-suc l))
+costs_fewer links costs l = omega (arith, rows_long links costs)
 
 -- a row is a place of both columns
 pub record RowAt (links costs : List ℕ) (row : ℕ) : Type 0 where
@@ -64,21 +65,24 @@ unfolding link_at names_again
 bad links batch row = leb links (link_at batch row) || names_again batch row
 
 -- the first i rows are good, and threaded
-pub record Passed (links : ℕ) (changed newcosts ends before : List ℕ) (i : ℕ) : Type 0 where
-  pub within : i ≤ length (rows_of_columns changed newcosts)
-  pub good : (row : ℕ) → row < i → bad links (rows_of_columns changed newcosts) row ≡ false
-  pub threaded : Threaded changed ends before i
+pub record Passed (links : ℕ) (columns : Columns) (threads : Threads) (i : ℕ) : Type 0 where
+  pub within : i ≤ length (rows_of columns)
+  pub good : (row : ℕ) → row < i → bad links (rows_of columns) row ≡ false
+  pub threaded : Threaded columns.links.now threads i
 
-pub passed_none : (links : ℕ) (changed newcosts : List ℕ) → Passed links changed newcosts (replicate thread_count 0) (replicate most_rows 0) 0
-passed_none links changed newcosts = record {
+pub passed_none : (links : ℕ) (columns : Columns) {threads : Threads} → Threaded columns.links.now threads 0 → Passed links columns threads 0
+passed_none links columns none = record {
   within = omega arith;
-  good = below_none (λ row. bad links (rows_of_columns changed newcosts) row ≡ false);
-  threaded = threaded_none changed;
+  good = below_none (λ row. bad links (rows_of columns) row ≡ false);
+  threaded = none;
 }
 
-module _ {links : ℕ} {changed newcosts ends before : List ℕ} {i : ℕ} (p : Passed links changed newcosts ends before i) where
+module _ {links : ℕ} {columns : Columns} {threads : Threads} {i : ℕ} (p : Passed links columns threads i) where
   abbrev batch : List Change
-  batch = rows_of_columns changed newcosts
+  batch = rows_of columns
+
+  abbrev link_of : ℕ → ℕ
+  link_of row = get_or columns.links.now row 0
 
   -- the first bad row, or their number
   first_bad : (i < length batch → bad links batch i ≡ true) → (t : Table) → length t.starts ≡ links → first_bad_row t batch ≡ i
@@ -87,60 +91,58 @@ module _ {links : ℕ} {changed newcosts ends before : List ℕ} {i : ℕ} (p : 
       let first : First (bad links batch) (length batch) i = record { within = p.within; before = p.good; passes = here } in
       first_is (rw (← e) at first)
 
-  pub none_bad : length batch ≤ i → RowsJudged links batch Accepted
+  pub none_bad : length batch ≤ i → RowsJudged links batch (Ok tt)
   unfolding judge_rows
   none_bad end = record {
     verdict = λ t e. rw (first_bad (λ l. absurd (omega arith)) t e, le-ltb i (length batch) end);
   }
 
   module _ (row : i < length batch) where
-    pub no_such_link : links ≤ get_or changed i 0 → RowsJudged links batch (RowNamesNoLink i)
+    link_there : (k : ℕ) → k < i + 1 → link_at batch k ≡ link_of k
+    link_there k l = (row_at columns.links.now columns.costs.now k (omega arith)).link
+
+    pub no_such_link : links ≤ link_of i → RowsJudged links batch (Err (RowNamesNoLink i))
     unfolding judge_rows names_no_link bad
     no_such_link l =
-        let past : leb links (link_at batch i) ≡ true = rw (row_at changed newcosts i row).link (le-leb links (get_or changed i 0) l) in
+        let past : leb links (link_at batch i) ≡ true = rw (link_there i (omega arith)) (le-leb links (link_of i) l) in
         record { verdict = λ t e. rw (first_bad (λ m. rw past) t e, lt-ltb i (length batch) row, e, past) }
 
-    module _ (is_link : get_or changed i 0 < links) {r : ℕ} (e : Earliest changed i (get_or changed i 0) r) where
+    module _ (is_link : link_of i < links) {r : ℕ} (e : Earliest columns.links.now i (link_of i) r) where
       is_here : leb links (link_at batch i) ≡ false
-      is_here = rw (row_at changed newcosts i row).link (lt-leb links (get_or changed i 0) is_link)
+      is_here = rw (link_there i (omega arith)) (lt-leb links (link_of i) is_link)
 
       same_row : earliest batch i ≡ r
       same_row = first_is first
         where
-          names : ℕ → Bool
-          names earlier = eqb (link_at batch earlier) (link_at batch i)
-
-          link_of : (k : ℕ) → k < i + 1 → link_at batch k ≡ get_or changed k 0
-          link_of k l = (row_at changed newcosts k (omega arith)).link
-
-          first : First names i r
+          first : First (λ earlier. eqb (link_at batch earlier) (link_at batch i)) i r
           first = record {
             within = e.within;
-            before = λ k l. rw (link_of k (omega (arith, e.within)), link_of i (omega arith)) (ne_eqb _ _ (e.none_before k l));
-            passes = λ l. rw (link_of r (omega arith), link_of i (omega arith)) (eq-eqb _ _ (e.names l));
+            before = λ k l. rw (link_there k (omega (arith, e.within)), link_there i (omega arith)) (ne_eqb _ _ (e.none_before k l));
+            passes = λ l. rw (link_there r (omega arith), link_there i (omega arith)) (eq-eqb _ _ (e.names l));
           }
 
       again : names_again batch i ≡ ltb r i
       unfolding names_again
       again = ap (λ (f : ℕ). ltb f i) same_row
 
-      pub named_again : r < i → RowsJudged links batch (RowNamesLinkAgain i r)
+      pub named_again : r < i → RowsJudged links batch (Err (RowNamesLinkAgain i r))
       unfolding judge_rows names_no_link bad
       named_again l =
           record { verdict = λ t q. rw (first_bad (λ m. rw (is_here, again, lt-ltb r i l)) t q, lt-ltb i (length batch) row, q, is_here, same_row) }
 
-      pub passed_more : i ≤ r → {ends' before' : List ℕ} → Threaded changed ends' before' (i + 1) → Passed links changed newcosts ends' before' (i + 1)
-      unfolding bad
-      passed_more none threaded = record {
-        within = omega arith;
-        good = below_more (λ row. bad links batch row ≡ false) i p.good (or-false _ _ is_here (again ∙ le-ltb r i none));
-        threaded = threaded;
-      }
+    pub passed_more : link_of i < links → Earliest columns.links.now i (link_of i) i → {next : Threads} → Threaded columns.links.now next (i + 1)
+        → Passed links columns next (i + 1)
+    unfolding bad
+    passed_more is_link none threaded = record {
+      within = omega arith;
+      good = below_more (λ row. bad links batch row ≡ false) i p.good (or-false _ _ (is_here is_link none) (again is_link none ∙ le-ltb i i (omega arith)));
+      threaded = threaded;
+    }
 
 -- ---- the number of rows
 
 module _ {links : ℕ} {batch : List Change} where
-  pub too_many : most_rows < length batch → BatchJudged links batch TooManyRows
+  pub too_many : most_rows < length batch → BatchJudged links batch (Err TooManyRows)
   too_many l = record { verdict = λ t e. rw (lt-ltb most_rows (length batch) l) }
 
   pub not_too_many : length batch ≤ most_rows → {answer : _} → RowsJudged links batch answer → BatchJudged links batch answer
@@ -157,18 +159,20 @@ pub record Writing (batch : List Change) (entry costs : List ℕ) (i : ℕ) : Ty
 pub writing_none : (batch : List Change) (entry : List ℕ) → Writing batch entry entry 0
 writing_none batch entry = record { within = omega arith; long = refl; rest = refl }
 
-pub writing_more : (links prices : List ℕ) {entry costs : List ℕ} {i : ℕ} → Writing (rows_of_columns links prices) entry costs i → i < length (rows_of_columns links prices)
-    → Writing (rows_of_columns links prices) entry (set costs (get_or links i 0) (get_or prices i 0)) (i + 1)
-unfolding applied
-writing_more links prices {costs = costs} {i} w l =
-    let batch = rows_of_columns links prices in
-    let row : Change = record { link = get_or links i 0; cost = get_or prices i 0 } in
-    let split : drop i batch ≡ row ∷ drop (suc i) batch = rw (← (row_at links prices i l).change row) (drop-cons batch i row l) in
-    record {
-      within = omega arith;
-      long = length-set costs (get_or links i 0) (get_or prices i 0) ∙ w.long;
-      rest = rw add-one (sym (ap (λ (rows : List Change). applied rows costs) split) ∙ w.rest);
-    }
+module _ (columns : Columns) {i : ℕ} {row : Change} (is : row ≡ change_at columns i) (l : i < length (rows_of columns)) where
+  pub named_row : {links : ℕ} → Named links (rows_of columns) → row.link < links
+  named_row names = rw (is, ← (row_at columns.links.now columns.costs.now i l).link) (names.named i l)
+
+  pub writing_more : {entry costs : List ℕ} → Writing (rows_of columns) entry costs i
+      → Writing (rows_of columns) entry (set costs row.link row.cost) (i + 1)
+  unfolding applied
+  writing_more {costs = costs} w =
+      let split : drop i (rows_of columns) ≡ row ∷ drop (suc i) (rows_of columns) = rw (is, ← (row_at columns.links.now columns.costs.now i l).change row) (drop-cons (rows_of columns) i row l) in
+      record {
+        within = omega arith;
+        long = length-set costs row.link row.cost ∙ w.long;
+        rest = rw add-one (sym (ap (λ (rows : List Change). applied rows costs) split) ∙ w.rest);
+      }
 
 pub writing_end : {batch : List Change} {entry costs : List ℕ} {i : ℕ} → Writing batch entry costs i → length batch ≤ i → costs ≡ applied batch entry
 unfolding applied

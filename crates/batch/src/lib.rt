@@ -1,77 +1,78 @@
 // A batch of cost changes, in two lent columns: judging its rows, refusals 7 to 9, and writing its costs.
 #![tactic(auto)]
 
-ghost use Rattle.std.specs.Prelude.{◌≡◌, ◌≤◌, ◌<◌, length, set};
+ghost use Rattle.std.specs.Prelude.{◌≡◌, ◌≤◌, ◌<◌, length};
 ghost use Rattle.rules.specs.Columns.{applied, most_links, most_rows};
-ghost use Rattle.batch.specs.Rows.{rows_of_columns, RowsJudged, BatchJudged, Named};
+ghost use Rattle.batch.specs.Rows.{rows_of, change_at, RowsJudged, BatchJudged, Named};
 
-use rules::Answer;
+use rules::{Change, Refusal};
+use threads::Threads;
 
-// How many rows the columns have: the places that both have.
-pub fn row_count(changed: &[u16], newcosts: &[u16]) -> usize
-    ensures { result ≡ length (rows_of_columns changed.now newcosts.now) }
-{
-    let links = changed.len();
-    let costs = newcosts.len();
-    if links < costs {
-        return links;
+// A batch by its columns, the links and their new costs: a row is a place that both have. Two columns and not a trait over
+// both forms of a batch: the search for the changed nodes takes the links alone, as a slice.
+#[derive(Clone, Copy)]
+pub struct Columns<'a> {
+    pub links: &'a [u16],
+    pub costs: &'a [u16],
+}
+
+impl<'a> Columns<'a> {
+    // How many rows the columns have.
+    pub fn len(&self) -> usize
+        ensures { result ≡ length (rows_of self.now) }
+    {
+        self.links.len().min(self.costs.len())
     }
-    costs
+
+    fn row(&self, place: usize) -> Change
+        requires { place < length (rows_of self.now) }
+        ensures { result ≡ change_at self.now place }
+    {
+        Change {
+            link: self.links[place],
+            cost: self.costs[place],
+        }
+    }
 }
 
 // One pass: the first bad row decides. The rows passed are kept on threads, so that each is compared with few others.
-fn judge_rows(links: usize, changed: &[u16], newcosts: &[u16]) -> Answer
-    requires { (links ≤ most_links) × (length (rows_of_columns changed.now newcosts.now) ≤ most_rows) }
-    ensures { RowsJudged links (rows_of_columns changed.now newcosts.now) result }
+fn judge_rows(links: usize, batch: &Columns) -> Result<(), Refusal>
+    requires few_links { links ≤ most_links }
+    requires few_rows { length (rows_of batch.now) ≤ most_rows }
+    ensures { RowsJudged links (rows_of batch.now) result }
 {
-    let rows = row_count(changed, newcosts);
-    let mut ends = [0u16; 512];
-    let mut before = [0u16; 256];
-    let mut i: usize = 0;
-    while i < rows {
-        let next = i + 1;
-        let link = changed[i];
+    let mut threads = Threads::new();
+    for row in 0..batch.len() {
+        let link = batch.row(row).link;
         if links <= link as usize {
-            return Answer::RowNamesNoLink(i as u16);
+            return Err(Refusal::RowNamesNoLink(row as u16));
         }
-        let earlier = threads::earliest_row(changed, &ends, &before, i, link);
-        if earlier < i {
-            return Answer::RowNamesLinkAgain(i as u16, earlier as u16);
+        if let Some(earlier) = threads.earliest_row(batch.links, row, link) {
+            return Err(Refusal::RowNamesLinkAgain(row as u16, earlier as u16));
         }
-        threads::add_row(changed, &mut ends, &mut before, i);
-        i = next;
+        threads.add_row(batch.links, row);
     }
-    Answer::Accepted
+    Ok(())
 }
 
 // The refusal of a batch that stands to a tree that fits, or acceptance.
-pub fn judge_batch(links: usize, changed: &[u16], newcosts: &[u16]) -> Answer
+pub fn judge_batch(links: usize, batch: &Columns) -> Result<(), Refusal>
     requires { links ≤ most_links }
-    ensures { BatchJudged links (rows_of_columns changed.now newcosts.now) result }
+    ensures { BatchJudged links (rows_of batch.now) result }
 {
-    if 256 < row_count(changed, newcosts) {
-        return Answer::TooManyRows;
+    if 256 < batch.len() {
+        return Err(Refusal::TooManyRows);
     }
-    judge_rows(links, changed, newcosts)
-}
-
-fn write_cost(link: u16, cost: u16, costs: &mut [u16])
-    requires { link < length costs.old }
-    ensures { costs.new ≡ set costs.old link cost }
-{
-    let place = link as usize;
-    costs[place] = cost;
+    judge_rows(links, batch)
 }
 
 // Writes the rows' costs into the cost column, whose other places stay.
-pub fn write_costs(changed: &[u16], newcosts: &[u16], costs: &mut [u16])
-    requires { Named (length costs.old) (rows_of_columns changed.now newcosts.now) }
-    ensures { costs.new ≡ applied (rows_of_columns changed.now newcosts.now) costs.old }
+pub fn write_costs(batch: &Columns, costs: &mut [u16])
+    requires { Named (length costs.old) (rows_of batch.now) }
+    ensures { costs.new ≡ applied (rows_of batch.now) costs.old }
 {
-    let rows = row_count(changed, newcosts);
-    let mut i: usize = 0;
-    while i < rows {
-        write_cost(changed[i], newcosts[i], costs);
-        i += 1;
+    for i in 0..batch.len() {
+        let row = batch.row(i);
+        costs[row.link as usize] = row.cost;
     }
 }

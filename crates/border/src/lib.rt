@@ -1,5 +1,6 @@
 // The jobs for programs in other languages. A tree is lent as its three arrays of 256; the answer's number is handed
-// back, 0 for acceptance, and the two values that it carries are written beside it.
+// back, 0 for acceptance, and the two values that it carries are written beside it. What C lends stays one parameter each,
+// as include/routes.h has it.
 #![tactic(auto)]
 
 ghost use Rattle.std.specs.Prelude.{◌≡◌};
@@ -10,6 +11,9 @@ ghost use Rattle.stream.specs.Records.{read_at};
 ghost use Rattle.plain.specs.Verdicts.{InNumbers};
 ghost use Rattle.plain.specs.Readings.{HandedBack};
 ghost use Rattle.rules.specs.Columns.{table, arrays};
+
+use batch::Columns;
+use rules::{Arrays, Links};
 
 #[unsafe(no_mangle)]
 pub extern "C" fn routes_judge_links(
@@ -22,7 +26,13 @@ pub extern "C" fn routes_judge_links(
 ) -> u16
     ensures { InNumbers (λ v. v ≡ judge_links (table nodes root starts.now ends.now costs.now)) result values.new }
 {
-    plain::tell(links::judge_links(nodes, root, starts, ends, costs), values)
+    let links = Links {
+        nodes,
+        root,
+        starts,
+        ends,
+    };
+    plain::tell(links::judge_links(&links, costs), values)
 }
 
 #[unsafe(no_mangle)]
@@ -39,10 +49,18 @@ pub extern "C" fn routes_judge_tree<'a>(
 ) -> u16
     ensures { InNumbers (λ v. v ≡ judge_tree (table nodes root starts.now ends.now costs.now) (arrays dist.now parent.now first.now)) result values.new }
 {
-    plain::tell(
-        fit::judge_rows(nodes, root, starts, ends, costs, dist, parent, first),
-        values,
-    )
+    let links = Links {
+        nodes,
+        root,
+        starts,
+        ends,
+    };
+    let tree = Arrays {
+        dist,
+        parent,
+        first,
+    };
+    plain::tell(fit::judge_rows(&links, costs, &tree), values)
 }
 
 #[unsafe(no_mangle)]
@@ -59,10 +77,13 @@ pub extern "C" fn routes_build(
 ) -> u16
     ensures { InNumbers (λ v. Built (table nodes root starts.now ends.now costs.now) v (arrays dist.new parent.new first.new)) result values.new }
 {
-    plain::tell(
-        build::build(nodes, root, starts, ends, costs, dist, parent, first),
-        values,
-    )
+    let links = Links {
+        nodes,
+        root,
+        starts,
+        ends,
+    };
+    plain::tell(build::build(&links, costs, dist, parent, first), values)
 }
 
 #[unsafe(no_mangle)]
@@ -83,10 +104,19 @@ pub extern "C" fn routes_update(
 ) -> u16
     ensures { InNumbers (λ v. Updated (table nodes root starts.now ends.now costs.old) (arrays dist.old parent.old first.old) (rows_of_columns changed.now newcosts.now) list.old v (arrays dist.new parent.new first.new) costs.new list.new count.new) result values.new }
 {
-    plain::tell(
-        update::update(
-            nodes, root, starts, ends, costs, changed, newcosts, dist, parent, first, list, count,
-        ),
+    let links = Links {
+        nodes,
+        root,
+        starts,
+        ends,
+    };
+    let batch = Columns {
+        links: changed,
+        costs: newcosts,
+    };
+    plain::tell_count(
+        update::update(&links, costs, &batch, dist, parent, first, list),
+        count,
         values,
     )
 }
@@ -108,12 +138,18 @@ pub extern "C" fn routes_path<'a>(
 ) -> u16
     ensures { InNumbers (λ v. Pathed (table nodes root starts.now ends.now costs.now) (arrays dist.now parent.now first.now) node list.old v list.new count.new) result values.new }
 {
-    plain::tell(
-        route::path(
-            nodes, root, starts, ends, costs, dist, parent, first, node, list, count,
-        ),
-        values,
-    )
+    let links = Links {
+        nodes,
+        root,
+        starts,
+        ends,
+    };
+    let tree = Arrays {
+        dist,
+        parent,
+        first,
+    };
+    plain::tell_count(route::path(&links, costs, &tree, node, list), count, values)
 }
 
 #[unsafe(no_mangle)]

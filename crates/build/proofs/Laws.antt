@@ -1,25 +1,15 @@
 -- What the table's verdict says of the whole job. Assumes nothing.
-use mathlib.Core.Path.{◌≡◌, refl, sym, ◌∙◌}
-use lib.ListN.{length-replicate}
-use Rattle.rules.specs.Columns.{Table, Arrays, Whole, Proper, narrow, empty_tree, most_nodes, unreached, no_link}
+use mathlib.Core.Path.{◌≡◌, refl, sym}
+use Rattle.rules.specs.Columns.{Table, Arrays, narrow, empty_tree}
 use Rattle.rules.specs.Refusals.{Verdict, accepted, refused, judge_links}
 use Rattle.rules.specs.Jobs.{Built, built, not_built}
-use Rattle.rules.proofs.Judged.{links_proper}
+use Rattle.rules.specs.declared.Profile.{Profile}
 use Rattle.grow.specs.Grown.{Grown}
 
-pub whole : {tree : Arrays} → tree ≡ empty_tree → Whole tree
-whole e = rw e (record { dist = length-replicate most_nodes unreached; parent = length-replicate most_nodes no_link; first = length-replicate most_nodes no_link })
+pub build_refused : {t : Table} {v : Verdict} → v ≡ judge_links t → (v ≡ accepted → ⊥) → {tree : Arrays} → tree ≡ empty_tree → Built t v tree
+build_refused {v = accepted} is n e = absurd (n refl)
+build_refused {v = refused number values} is n e = rw e (not_built (sym is))
 
-module _ (t : Table) (v : Verdict) (is : v ≡ judge_links t) where
-  pub build_refused : (v ≡ accepted → ⊥) → {tree : Arrays} → tree ≡ empty_tree → Built t v tree
-  build_refused n e = rw e (at v is n)
-    where
-      at : (v : Verdict) → v ≡ judge_links t → (v ≡ accepted → ⊥) → Built t v empty_tree
-      at accepted is n = absurd (n refl)
-      at (refused number values) is n = not_built (sym is)
-
-  pub build_proper : v ≡ accepted → Proper t
-  build_proper a = links_proper t (sym is ∙ a)
-
-  pub build_accepted : v ≡ accepted → {tree : Arrays} → Grown narrow t tree → Built t v tree
-  build_accepted a g = rw a (built (sym is ∙ a) g.whole g.fresh)
+pub build_accepted : (t judged : Table) (p : Profile) → accepted ≡ judge_links t → p ≡ narrow → judged ≡ t
+    → {tree : Arrays} → Grown p judged tree → Built t accepted tree
+build_accepted t judged p is e same g = let grown = rw (e, same) at g in built (sym is) grown.whole grown.fresh

@@ -9,7 +9,7 @@ pub record Enough (mark from cost to : ℕ) : Type 0 where
   pub enough : from + cost ≤ to
 
 -- node v waits if it is reached, and nothing else is changed
-pub record Waiting (mark : ℕ) (dist keys : List ℕ) (v : ℕ) (keys' mins' : List ℕ) : Type 0 where
-  pub lined : Lined mark dist keys' mins'
+pub record Waiting (mark : ℕ) (dist keys : List ℕ) (v : ℕ) (keys' : List ℕ) : Type 0 where
+  pub lined : Lined mark dist keys'
   pub here : get_or dist v mark < mark → key_at keys' v ≢ empty
   pub others : (u : ℕ) → u ≢ v → key_at keys' u ≡ key_at keys u

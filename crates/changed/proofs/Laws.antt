@@ -5,29 +5,36 @@ use mathlib.Core.List.{List, [], ◌∷◌, ◌++◌, append_assoc, append-nil}
 use Prim.Native.Nat.{ℕ, zero, suc, ◌+◌, ◌≤◌, ◌<◌}
 use native.Mathlib.Numerals.{add-one}
 use native.Mathlib.Omega.{arith}
+use Rattle.std.proofs.Math.Bool.{and_assoc}
 use lib.Dec.{eqb}
 use lib.ListN.{length, get_or, set, drop, length-append}
 use lib.Seq.{set-append_seam, drop-cons}
 use Rattle.rules.specs.Fit.{Rows}
-use Rattle.rules.specs.Columns.{Arrays, Whole, narrow, rows_in, no_link}
+use Rattle.rules.specs.Columns.{Arrays, Whole, narrow, rows_in, no_link, most_nodes}
+use Rattle.rules.specs.Lent.{row_at}
+use Rattle.rules.specs.declared.Row.{Row}
 use Rattle.rules.specs.Jobs.{written, differs, changed_below}
 use Rattle.rules.specs.declared.Profile.{Profile}
 use Rattle.rules.proofs.Logic.{get_d_any}
 use Rattle.changed.specs.Listed.{ListedBelow}
 
 -- the code's test of two rows is the rules'
-pub differs_by : (p : Profile) {old new : Arrays} → Whole old → Whole new → (v : ℕ) → v < 256
-    → not (eqb (get_or old.dist v 0) (get_or new.dist v 0) && eqb (get_or old.parent v 0) (get_or new.parent v 0) && eqb (get_or old.first v 0) (get_or new.first v 0))
-    ≡ differs (rows_in p old) (rows_in p new) v
+pub differs_by : {old new : Arrays} → Whole old → Whole new → {v : ℕ} → v < most_nodes → {a b : Row} → a ≡ row_at old v → b ≡ row_at new v
+    → {differ : Bool} → differ ≡ not (eqb a.dist b.dist && (eqb a.parent b.parent && eqb a.first b.first))
+    → (p : Profile) → differs (rows_in p old) (rows_in p new) v ≡ differ
 unfolding differs
-differs_by p {old} {new} a b v l =
+differs_by {old} {new} o n {v} l a b e p =
     rw (
-      get_d_any old.dist v 0 p.mark (omega (arith, a.dist)),
-      get_d_any new.dist v 0 p.mark (omega (arith, b.dist)),
-      get_d_any old.parent v 0 no_link (omega (arith, a.parent)),
-      get_d_any new.parent v 0 no_link (omega (arith, b.parent)),
-      get_d_any old.first v 0 no_link (omega (arith, a.first)),
-      get_d_any new.first v 0 no_link (omega (arith, b.first)),
+      e,
+      a,
+      b,
+      get_d_any old.dist v 0 p.mark (omega (arith, o.dist)),
+      get_d_any new.dist v 0 p.mark (omega (arith, n.dist)),
+      get_d_any old.parent v 0 no_link (omega (arith, o.parent)),
+      get_d_any new.parent v 0 no_link (omega (arith, n.parent)),
+      get_d_any old.first v 0 no_link (omega (arith, o.first)),
+      get_d_any new.first v 0 no_link (omega (arith, n.first)),
+      and_assoc,
     ) refl
 
 -- one entry more at the front

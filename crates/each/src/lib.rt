@@ -6,7 +6,7 @@ ghost use Rattle.rules.specs.Answers.{told};
 ghost use Rattle.rules.specs.Columns.{most_links, table};
 ghost use Rattle.rules.specs.Refusals.{accepted, judge_each, wrong_ends};
 
-use rules::Answer;
+use rules::Refusal;
 
 // The start or the end is no node, or the link leads from a node to itself.
 pub fn wrong_ends(nodes: usize, start: u16, end: u16) -> bool
@@ -19,57 +19,48 @@ pub fn wrong_ends(nodes: usize, start: u16, end: u16) -> bool
 fn fault(nodes: u16, start: u16, end: u16, previous: u16) -> u16
     ensures { result ≡ cond (wrong_ends nodes start end || ltb start previous) 1 0 }
 {
-    if wrong_ends(nodes as usize, start, end) || start < previous {
-        1
-    } else {
-        0
-    }
+    u16::from(wrong_ends(nodes as usize, start, end) || start < previous)
 }
 
-// How many links are wrong, of which only what 0 means is promised. No link ends the pass and the count has 16 bits like
-// the columns, so that the compiler judges several links at once.
+// How many links are wrong, of which only what 0 means is promised. A count and not `any`: no link ends the pass and the
+// count has 16 bits like the columns, so that the compiler judges several links at once, which is faster.
 pub fn wrong_links(nodes: u16, starts: &[u16], ends: &[u16]) -> u16
-    requires { (length starts.now ≡ length ends.now) × (length starts.now ≤ most_links) }
+    requires same_length { length starts.now ≡ length ends.now }
+    requires few_links { length starts.now ≤ most_links }
     ensures { result ≡ 0 → accepted ≡ judge_each (table nodes 0 starts.now ends.now []) }
 {
     let mut count: u16 = 0;
     // Nothing is below 0, so link 0, with none before it, never counts as a fall.
     let mut previous: u16 = 0;
-    let mut i: usize = 0;
-    while i < starts.len() {
-        let start = starts[i];
-        count = count + fault(nodes, start, ends[i], previous);
-        previous = start;
-        i += 1;
+    for i in 0..starts.len() {
+        count += fault(nodes, starts[i], ends[i], previous);
+        previous = starts[i];
     }
     count
 }
 
 // One pass, for a table with a wrong link: the first with wrong ends decides; a start below the one before it is
 // remembered till the end.
-pub fn judge_each(nodes: usize, starts: &[u16], ends: &[u16]) -> Answer
-    requires { (length starts.now ≡ length ends.now) × (length starts.now ≤ most_links) }
+pub fn judge_each(nodes: usize, starts: &[u16], ends: &[u16]) -> Result<(), Refusal>
+    requires same_length { length starts.now ≡ length ends.now }
+    requires few_links { length starts.now ≤ most_links }
     ensures { told result ≡ judge_each (table nodes 0 starts.now ends.now []) }
 {
-    let links = starts.len();
-    // The first link that starts below the one before it; while there is none, the number of links.
-    let mut fall = links;
+    // The first link that starts below the one before it.
+    let mut fall: Option<u16> = None;
     let mut previous: u16 = 0;
-    let mut i: usize = 0;
-    while i < links {
-        let next = i + 1;
-        let start = starts[i];
-        if wrong_ends(nodes, start, ends[i]) {
-            return Answer::WrongEnds(i as u16);
+    for link in 0..starts.len() {
+        let start = starts[link];
+        if wrong_ends(nodes, start, ends[link]) {
+            return Err(Refusal::WrongEnds(link as u16));
         }
-        if start < previous && fall == links {
-            fall = i;
+        if start < previous {
+            fall = fall.or(Some(link as u16));
         }
         previous = start;
-        i = next;
     }
-    if fall < links {
-        return Answer::WrongOrder(fall as u16);
+    match fall {
+        Some(link) => Err(Refusal::WrongOrder(link)),
+        None => Ok(()),
     }
-    Answer::Accepted
 }

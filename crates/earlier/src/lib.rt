@@ -8,71 +8,40 @@ ghost use Rattle.earlier.specs.Earlier.{behind, earlier_change, earlier_of};
 use stream::Item;
 
 // What is found behind an item: an APPLY leaves nothing, a CHANGE of the link is found where nothing was.
-fn behind(item: Item, at: usize, link: u16, found: usize, none: usize) -> usize
-    ensures { result ≡ behind item at link found none }
+fn behind(item: Item, at: usize, link: u16, found: Option<usize>) -> Option<usize>
+    ensures { result ≡ behind item at link found }
 {
     match item {
-        Item::Network { nodes: _, root: _ } => found,
-        Item::Link {
-            start: _,
-            end: _,
-            cost: _,
-        } => found,
-        Item::Change {
-            link: named,
-            cost: _,
-        } => {
-            if named != link {
-                return found;
-            }
-            if found != none {
-                return found;
-            }
-            at
-        }
-        Item::Apply => none,
-        Item::Ask { node: _ } => found,
-        Item::End => found,
-        Item::UnknownKind(_) => found,
-        Item::CutShort(_) => found,
+        Item::Change { link: named, .. } if named == link => found.or(Some(at)),
+        Item::Apply => None,
+        _ => found,
     }
 }
 
-// The first CHANGE of the link behind the last APPLY before a place; the place itself where there is none.
-pub fn earlier_change(stream: &[u8], place: usize, link: u16) -> usize
+// The place of the first CHANGE of the link behind the last APPLY before a place, where there is one.
+pub fn earlier_change(stream: &[u8], place: usize, link: u16) -> Option<usize>
     ensures { result ≡ earlier_change stream.now place link }
 {
-    let mut found = place;
-    let mut at: usize = 0;
+    let mut found = None;
+    let mut at = 0;
     while at < place {
         let read = stream::read_at(stream, at);
-        let item = read.item;
-        let next = read.next;
-        found = behind(item, at, link, found, place);
-        if next <= at {
+        found = behind(read.item, at, link, found);
+        if read.next <= at {
             return found;
         }
-        at = next;
+        at = read.next;
     }
     found
 }
 
-// The same of an item, whose place it is; 0 where it is no CHANGE.
+// The same of an item, whose place it is: that place itself where there is none, and 0 where it is no CHANGE. A line is told with
+// this number (`turn`'s `Turns`), so it is no `Option`.
 pub fn earlier_of(stream: &[u8], place: usize, item: Item) -> usize
     ensures { result ≡ earlier_of stream.now place item }
 {
-    match item {
-        Item::Change { link, cost: _ } => earlier_change(stream, place, link),
-        Item::Network { nodes: _, root: _ } => 0,
-        Item::Link {
-            start: _,
-            end: _,
-            cost: _,
-        } => 0,
-        Item::Apply => 0,
-        Item::Ask { node: _ } => 0,
-        Item::End => 0,
-        Item::UnknownKind(_) => 0,
-        Item::CutShort(_) => 0,
-    }
+    let Item::Change { link, .. } = item else {
+        return 0;
+    };
+    earlier_change(stream, place, link).unwrap_or(place)
 }

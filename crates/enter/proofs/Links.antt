@@ -12,7 +12,8 @@ use borrow.Author.Count.{below_more}
 use borrow.Author.Tests.{lt-ltb, le-ltb, eq-eqb}
 use Rattle.rules.specs.Columns.{Table, table, most_links}
 use Rattle.rules.specs.Refusals.{only, accepted, refused, ◌then◌, when, when_one, wrong_node_count, wrong_root, wrong_columns, wrong_ends, wrong_ends_at, wrong_order_at, judge_each, judge_links}
-use Rattle.rules.specs.declared.Answer.TheVariants.{Accepted, WrongColumns, WrongEnds, WrongOrder}
+use Rattle.std.specs.Prelude.{Ok, Err}
+use Rattle.rules.specs.declared.Refusal.TheVariants.{WrongColumns, WrongEnds, WrongOrder}
 use Rattle.rules.proofs.Logic.{First, first_is}
 use Rattle.rules.proofs.Judged.{then_first, then_second, when_not, none_of, not_refused, links_proper}
 use Rattle.links.proofs.Laws.{columns_decide, links_decide}
@@ -114,25 +115,25 @@ module _ (nodes root : ℕ) (starts ends costs : List ℕ) (start end cost : ℕ
 -- ---- the four answers
 
 module _ {nodes : ℕ} {starts : List ℕ} {start end : ℕ} where
-  pub no_place : most_links ≤ length starts → LinkJudged nodes starts start end WrongColumns
+  pub no_place : most_links ≤ length starts → LinkJudged nodes starts start end (Err WrongColumns)
   no_place l = record { verdict = λ root ends costs cost fine. full nodes root starts ends costs start end cost fine l; room = λ e. absurd (not_refused e) }
 
   module _ (room : length starts < most_links) where
-    pub bad_ends : wrong_ends nodes start end ≡ true → LinkJudged nodes starts start end (WrongEnds (length starts))
+    pub bad_ends : wrong_ends nodes start end ≡ true → LinkJudged nodes starts start end (Err (WrongEnds (length starts)))
     bad_ends e = record {
       verdict = λ root ends costs cost fine. last_decides nodes root starts ends costs start end cost fine room e refl;
       room = λ a. room;
     }
 
     module _ (right : wrong_ends nodes start end ≡ false) where
-      pub wrong_order : start < get_or starts (length starts - 1) 0 → LinkJudged nodes starts start end (WrongOrder (length starts))
+      pub wrong_order : start < get_or starts (length starts - 1) 0 → LinkJudged nodes starts start end (Err (WrongOrder (length starts)))
       wrong_order l = record {
         verdict = λ root ends costs cost fine.
             last_decides nodes root starts ends costs start end cost fine room right (lt-ltb start (get_or starts (length starts - 1) 0) l);
         room = λ a. room;
       }
 
-      pub right_link : get_or starts (length starts - 1) 0 ≤ start → LinkJudged nodes starts start end Accepted
+      pub right_link : get_or starts (length starts - 1) 0 ≤ start → LinkJudged nodes starts start end (Ok tt)
       right_link l = record {
         verdict = λ root ends costs cost fine.
             last_decides nodes root starts ends costs start end cost fine room right (le-ltb start (get_or starts (length starts - 1) 0) l);

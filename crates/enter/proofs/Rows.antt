@@ -8,17 +8,18 @@ use lib.Dec.{eqb, ltb, leb}
 use lib.ListN.{length, get_or, length-append, get_or-append}
 use lib.Seq.{get_or-append_seam}
 use borrow.Author.Count.{below_more}
-use borrow.Author.Tests.{lt-ltb, le-ltb, ltb-false, le-leb, lt-leb}
+use borrow.Author.Tests.{lt-ltb, le-ltb, ltb-false, le-leb, lt-leb, eq-eqb, ne_eqb}
 use Rattle.rules.specs.Tests.{first_below}
 use Rattle.rules.specs.Columns.{Table, most_rows}
 use Rattle.rules.specs.Refusals.{only, both, earliest, accepted, refused, link_at, names_no_link, names_again, first_bad_row, judge_rows}
 use Rattle.rules.specs.declared.Change.{Change}
-use Rattle.rules.specs.declared.Answer.TheVariants.{Accepted, TooManyRows, RowNamesNoLink, RowNamesLinkAgain}
+use Rattle.std.specs.Prelude.{Ok, Err, None, Some}
+use Rattle.rules.specs.declared.Refusal.TheVariants.{TooManyRows, RowNamesNoLink, RowNamesLinkAgain}
 use Rattle.rules.proofs.Logic.{First, first_of, first_is}
 use Rattle.rules.proofs.Judged.{not_refused}
 use Rattle.batch.specs.Rows.{rows_of_columns}
 use Rattle.batch.proofs.Laws.{links_fewer, row_at}
-use Rattle.enter.specs.More.{with_one_more, judge_waiting, first_naming, RowJudged}
+use Rattle.enter.specs.More.{with_one_more, judge_waiting, first_naming, FirstNaming, RowJudged}
 
 -- two tests that agree below n have the same first place
 same_first : (p q : ℕ → Bool) (n : ℕ) → ((j : ℕ) → j < n → p j ≡ q j) → first_below p n ≡ first_below q n
@@ -108,28 +109,35 @@ module _ (t : Table) (changed newcosts : List ℕ) (link cost : ℕ) (long : len
 
 -- ---- the four answers
 
+module _ (changed : List ℕ) (link : ℕ) where
+  named_first : {first : ℕ} → FirstNaming changed link (Some first) → first_naming changed link ≡ first
+  named_first f = first_is (record { within = omega (arith, f.0); before = λ row l. ne_eqb _ _ (f.2 row l); passes = λ l. eq-eqb _ _ f.1 })
+
+  named_nowhere : FirstNaming changed link None → first_naming changed link ≡ length changed
+  named_nowhere f = first_is (record { within = omega arith; before = λ row l. ne_eqb _ _ (f row l); passes = λ l. absurd (omega arith) })
+
 module _ {links : ℕ} {changed : List ℕ} {link : ℕ} where
-  pub no_place : most_rows ≤ length changed → RowJudged links changed link TooManyRows
+  pub no_place : most_rows ≤ length changed → RowJudged links changed link (Err TooManyRows)
   no_place l = record { verdict = λ t newcosts cost e long fine. full t changed newcosts link cost long fine l; room = λ a. absurd (not_refused a) }
 
   module _ (room : length changed < most_rows) where
-    pub no_such_link : links ≤ link → RowJudged links changed link (RowNamesNoLink (length changed))
+    pub no_such_link : links ≤ link → RowJudged links changed link (Err (RowNamesNoLink (length changed)))
     no_such_link l = record {
       verdict = λ t newcosts cost e long fine. last_decides t changed newcosts link cost long fine (le-leb (length t.starts) link (omega arith)) refl room;
       room = λ a. room;
     }
 
     module _ (is_link : link < links) where
-      pub again : first_naming changed link < length changed → RowJudged links changed link (RowNamesLinkAgain (length changed) (first_naming changed link))
-      again l = record {
+      pub again : {first : ℕ} → FirstNaming changed link (Some first) → RowJudged links changed link (Err (RowNamesLinkAgain (length changed) first))
+      again f = rw (← named_first changed link f) (record {
         verdict = λ t newcosts cost e long fine.
-            last_decides t changed newcosts link cost long fine (lt-leb (length t.starts) link (omega arith)) (lt-ltb (first_naming changed link) (length changed) l) room;
+            last_decides t changed newcosts link cost long fine (lt-leb (length t.starts) link (omega arith)) (lt-ltb _ _ (omega (arith, f.0, named_first changed link f))) room;
         room = λ a. room;
-      }
+      })
 
-      pub right_row : length changed ≤ first_naming changed link → RowJudged links changed link Accepted
-      right_row l = record {
+      pub right_row : FirstNaming changed link None → RowJudged links changed link (Ok tt)
+      right_row f = record {
         verdict = λ t newcosts cost e long fine.
-            last_decides t changed newcosts link cost long fine (lt-leb (length t.starts) link (omega arith)) (le-ltb (first_naming changed link) (length changed) l) room;
+            last_decides t changed newcosts link cost long fine (lt-leb (length t.starts) link (omega arith)) (le-ltb _ _ (omega (arith, named_nowhere changed link f))) room;
         room = λ a. room;
       }

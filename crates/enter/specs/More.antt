@@ -1,10 +1,9 @@
 -- One link more behind the links so far, and one row more behind the rows that wait. Assumes nothing.
-use Rattle.std.specs.Prelude.{◌≡◌, List, [], ◌∷◌, ◌++◌, ℕ, ◌<◌, ltb, eqb, length, get_or, set}
+use Rattle.std.specs.Prelude.{◌≡◌, ◌≢◌, List, [], ◌∷◌, ◌++◌, ℕ, Option, None, Some, ◌<◌, ltb, eqb, length, get_or, set}
 use Rattle.rules.specs.Tests.{first_below}
 use Rattle.rules.specs.Columns.{Table, table, most_links, most_rows}
 use Rattle.rules.specs.Refusals.{Verdict, accepted, refused, ◌then◌, when, judge_links, judge_rows}
-use Rattle.rules.specs.Answers.{told}
-use Rattle.rules.specs.declared.Answer.{Answer}
+use Rattle.rules.specs.Answers.{Answer, told}
 use Rattle.rules.specs.declared.Change.{Change}
 use Rattle.batch.specs.Rows.{rows_of_columns}
 
@@ -42,3 +41,9 @@ pub record RowJudged (links : ℕ) (changed : List ℕ) (link : ℕ) (answer : A
 -- the first row that names a link; their number where none does
 abbrev pub first_naming : List ℕ → ℕ → ℕ
 first_naming changed link = first_below (λ row. eqb (get_or changed row 0) link) (length changed)
+
+-- the first row that names a link, or none: proofs/Rows.antt shows that it is the row above
+abbrev pub FirstNaming : List ℕ → ℕ → Option ℕ → Type 0
+FirstNaming changed link None = (row : ℕ) → row < length changed → get_or changed row 0 ≢ link
+FirstNaming changed link (Some first) =
+    (first < length changed) × (get_or changed first 0 ≡ link) × ((row : ℕ) → row < first → get_or changed row 0 ≢ link)

@@ -5,40 +5,37 @@
 ghost use Rattle.std.specs.Prelude.{◌≡◌, ◌-◌, ◌≤◌, length, get_or, take};
 ghost use Rattle.rules.specs.Answers.{told};
 ghost use Rattle.rules.specs.Columns.{most_links, most_rows};
-ghost use Rattle.enter.specs.More.{entered, first_naming, LinkJudged, RowJudged};
+ghost use Rattle.enter.specs.More.{entered, FirstNaming, LinkJudged, RowJudged};
 
-use rules::Answer;
+use rules::Refusal;
 
 // The start of the last link; 0 where there is none, since nothing is below 0.
 fn last_start(starts: &[u16]) -> u16
     ensures { result ≡ get_or starts.now (length starts.now - 1) 0 }
 {
-    if starts.len() == 0 {
-        return 0;
-    }
-    let last = starts.len() - 1;
-    starts[last]
+    starts.last().copied().unwrap_or(0)
 }
 
 // Refusals 3 to 5 of the table with one link more: the links so far are accepted, so this one and the start before it
 // tell what the whole table would.
-fn judge_link(nodes: usize, starts: &[u16], start: u16, end: u16) -> Answer
+fn judge_link(nodes: usize, starts: &[u16], start: u16, end: u16) -> Result<(), Refusal>
     ensures { LinkJudged nodes starts.now start end result }
 {
     let place = starts.len();
     if 4096 <= place {
-        return Answer::WrongColumns;
+        return Err(Refusal::WrongColumns);
     }
     if each::wrong_ends(nodes, start, end) {
-        return Answer::WrongEnds(place as u16);
+        return Err(Refusal::WrongEnds(place as u16));
     }
     if start < last_start(starts) {
-        return Answer::WrongOrder(place as u16);
+        return Err(Refusal::WrongOrder(place as u16));
     }
-    Answer::Accepted
+    Ok(())
 }
 
-// LINK: the link behind the links so far, where the table takes it.
+// LINK: the link behind the links so far, where the table takes it. The columns are lent one by one: what keeps them together
+// (`session`'s `Lists`) stands above.
 pub fn enter_link(
     nodes: usize,
     links: usize,
@@ -48,50 +45,45 @@ pub fn enter_link(
     starts: &mut [u16],
     ends: &mut [u16],
     costs: &mut [u16],
-) -> Answer
-    requires { (links ≤ most_links) × (length starts.old ≡ most_links) × (length ends.old ≡ most_links) × (length costs.old ≡ most_links) }
-    ensures { LinkJudged nodes (take links starts.old) start end result × (starts.new ≡ entered (told result) starts.old links start) × (ends.new ≡ entered (told result) ends.old links end) × (costs.new ≡ entered (told result) costs.old links cost) }
+) -> Result<(), Refusal>
+    requires few_links { links ≤ most_links }
+    requires starts_room { length starts.old ≡ most_links }
+    requires ends_room { length ends.old ≡ most_links }
+    requires costs_room { length costs.old ≡ most_links }
+    ensures judged { LinkJudged nodes (take links starts.old) start end result }
+    ensures starts { starts.new ≡ entered (told result) starts.old links start }
+    ensures ends { ends.new ≡ entered (told result) ends.old links end }
+    ensures costs { costs.new ≡ entered (told result) costs.old links cost }
 {
-    let link_answer = judge_link(nodes, &starts[..links], start, end);
-    if rules::number(link_answer) != 0 {
-        return link_answer;
-    }
+    judge_link(nodes, &starts[..links], start, end)?;
     starts[links] = start;
     ends[links] = end;
     costs[links] = cost;
-    link_answer
+    Ok(())
 }
 
-// The first of the rows that names the link; their number where none does.
-fn first_naming(changed: &[u16], link: u16) -> usize
-    ensures { result ≡ first_naming changed.now link }
+// The first of the rows that names the link.
+fn first_naming(changed: &[u16], link: u16) -> Option<usize>
+    ensures { FirstNaming changed.now link result }
 {
-    let mut row: usize = 0;
-    while row < changed.len() {
-        if changed[row] == link {
-            return row;
-        }
-        row += 1;
-    }
-    row
+    changed.iter().position(|row| *row == link)
 }
 
 // Refusals 7 to 9 of the rows with one more.
-fn judge_change(links: usize, changed: &[u16], link: u16) -> Answer
+fn judge_change(links: usize, changed: &[u16], link: u16) -> Result<(), Refusal>
     ensures { RowJudged links changed.now link result }
 {
     let place = changed.len();
     if 256 <= place {
-        return Answer::TooManyRows;
+        return Err(Refusal::TooManyRows);
     }
     if links <= link as usize {
-        return Answer::RowNamesNoLink(place as u16);
+        return Err(Refusal::RowNamesNoLink(place as u16));
     }
-    let earlier = first_naming(changed, link);
-    if earlier < place {
-        return Answer::RowNamesLinkAgain(place as u16, earlier as u16);
+    if let Some(earlier) = first_naming(changed, link) {
+        return Err(Refusal::RowNamesLinkAgain(place as u16, earlier as u16));
     }
-    Answer::Accepted
+    Ok(())
 }
 
 // CHANGE: the row behind the rows that wait, where they take it.
@@ -102,15 +94,16 @@ pub fn enter_change(
     cost: u16,
     changed: &mut [u16],
     newcosts: &mut [u16],
-) -> Answer
-    requires { (rows ≤ most_rows) × (length changed.old ≡ most_rows) × (length newcosts.old ≡ most_rows) }
-    ensures { RowJudged links (take rows changed.old) link result × (changed.new ≡ entered (told result) changed.old rows link) × (newcosts.new ≡ entered (told result) newcosts.old rows cost) }
+) -> Result<(), Refusal>
+    requires few_rows { rows ≤ most_rows }
+    requires links_room { length changed.old ≡ most_rows }
+    requires costs_room { length newcosts.old ≡ most_rows }
+    ensures judged { RowJudged links (take rows changed.old) link result }
+    ensures links { changed.new ≡ entered (told result) changed.old rows link }
+    ensures costs { newcosts.new ≡ entered (told result) newcosts.old rows cost }
 {
-    let row_answer = judge_change(links, &changed[..rows], link);
-    if rules::number(row_answer) != 0 {
-        return row_answer;
-    }
+    judge_change(links, &changed[..rows], link)?;
     changed[rows] = link;
     newcosts[rows] = cost;
-    row_answer
+    Ok(())
 }

@@ -5,7 +5,6 @@ use mathlib.Core.Logic.{◌≢◌}
 use mathlib.Core.List.{List}
 use Prim.Native.Nat.{ℕ, ◌+◌, ◌<◌}
 use native.Mathlib.Omega.{arith}
-use native.Mathlib.Nat.{not-suc-le-zero}
 use native.Mathlib.Decide.{ℕ_discrete, dec_lt}
 use borrow.Author.Count.{below_more}
 use lib.ListN.{length, get_or, set, replicate, length-set, length-replicate, get_or-eq_default}
@@ -78,9 +77,6 @@ module _ {root : ℕ} {starts dist parent : List ℕ} (s : Rising root starts di
     pub up_hangs : up ≢ root → Has parent up
     up_hangs n = rw is_above (s.goes_on v h (λ q. n (is_above ∙ q)))
 
-    pub up_within : up ≢ root → up < most_nodes
-    up_within n = hangs_within (up_hangs n)
-
 -- ---- first links that are right already
 
 module _ {root : ℕ} {starts first : List ℕ} where
@@ -97,9 +93,6 @@ module _ {root : ℕ} {starts first : List ℕ} where
   by_read parent long l by = rw (← read_link parent long l) by
 
 module _ {root : ℕ} {starts parent first : List ℕ} where
-  pub standing_none : Standing root starts parent 0 first
-  standing_none = record { each = λ v l. absurd (not-suc-le-zero l) }
-
   module _ {v f : ℕ} (parent_long : length parent ≡ most_nodes) (first_long : length first ≡ most_nodes) (l : v < most_nodes)
       (by : FirstBy root starts first (get_or parent v 0) f) where
     pub standing_more : Standing root starts parent v first → get_or first v 0 ≡ f → Standing root starts parent (v + 1) first
@@ -146,11 +139,9 @@ module _ (root : ℕ) (starts parent : List ℕ) where
   -- v hangs above node or is it: its first link is that of node
   pub record Climbing (node v : ℕ) : Type 0 where
     pub hangs : Has parent v
+    pub row : v < most_nodes
+    pub link : get_or parent v 0 < length starts
     pub down : (f : ℕ) → FirstLink root starts parent v f → FirstLink root starts parent node f
-
-module _ {root : ℕ} {starts parent : List ℕ} where
-  pub climbing_none : {node : ℕ} → Has parent node → Climbing root starts parent node node
-  climbing_none h = record { hangs = h; down = λ f a. a }
 
 module _ {root : ℕ} {starts dist parent : List ℕ} (s : Rising root starts dist parent) {node v : ℕ} (c : Climbing root starts parent node v)
     {up : ℕ} (e : up ≡ get_or starts (get_or parent v 0) 0) where
@@ -159,7 +150,13 @@ module _ {root : ℕ} {starts dist parent : List ℕ} (s : Rising root starts di
 
   pub climbing_more : up ≢ root → Climbing root starts parent node up
   climbing_more n =
-      record { hangs = up_hangs s c.hangs e n; down = λ f a. c.down f (far c.hangs (λ q. n (is_above s c.hangs e ∙ q)) (rw (← is_above s c.hangs e) a)) }
+      let hangs = up_hangs s c.hangs e n in
+      record {
+        hangs = hangs;
+        row = hangs_within s hangs;
+        link = link_within s hangs;
+        down = λ f a. c.down f (far c.hangs (λ q. n (is_above s c.hangs e ∙ q)) (rw (← is_above s c.hangs e) a));
+      }
 
 -- ---- known first links
 
@@ -179,16 +176,21 @@ module _ (root : ℕ) (starts parent : List ℕ) where
     pub known : Known root starts parent new
     pub stays : (u : ℕ) → Has old u → Has new u
     pub here : FirstLink root starts parent v link
+    pub row : v < most_nodes
+    pub parent_link : get_or parent v 0 < length starts
     pub below : v ≢ node → Has new node
 
-module _ {root : ℕ} {starts parent : List ℕ} {node link : ℕ} where
+module _ {root : ℕ} {starts dist parent : List ℕ} (r : Rising root starts dist parent) {node link : ℕ} where
   pub spreading_none : {first : List ℕ} → Known root starts parent first → FirstLink root starts parent node link
       → Spreading root starts parent node link node first first
-  spreading_none k a = record { known = k; stays = λ u h. h; here = a; below = λ n. absurd (n refl) }
+  spreading_none k a =
+      let hangs = first_hangs a in
+      record { known = k; stays = λ u h. h; here = a; row = hangs_within r hangs; parent_link = link_within r hangs; below = λ n. absurd (n refl) }
 
-  pub spreading_written : {v : ℕ} {old new : List ℕ} → v < most_nodes → Spreading root starts parent node link v old new
+module _ {root : ℕ} {starts parent : List ℕ} {node link : ℕ} where
+  pub spreading_written : {v : ℕ} {old new : List ℕ} → Spreading root starts parent node link v old new
       → Spread root starts parent node old (set new v link)
-  spreading_written {v} {old} {new} l s =
+  spreading_written {v} {old} {new} s =
       record {
         known = record {
           long = length-set new v link ∙ s.known.long;
@@ -199,23 +201,29 @@ module _ {root : ℕ} {starts parent : List ℕ} {node link : ℕ} where
       }
     where
       inside : v < length new
-      inside = omega (arith, s.known.long)
+      inside = omega (arith, s.row, s.known.long)
 
       is_link : link ≢ no_link
       is_link = first_is_link s.here
 
 module _ {root : ℕ} {starts dist parent : List ℕ} (r : Rising root starts dist parent) {node link v up : ℕ}
     (e : up ≡ get_or starts (get_or parent v 0) 0) where
-  pub spreading_more : {old new next : List ℕ} → Spreading root starts parent node link v old new → Spread root starts parent node old next
-      → up ≢ root → Spreading root starts parent node link up old next
-  spreading_more s w n =
+  pub spreading_more : {old new : List ℕ} → Spreading root starts parent node link v old new → up ≢ root
+      → Spreading root starts parent node link up old (set new v link)
+  spreading_more s n =
+      let w = spreading_written s in
       let above_v = is_above r (first_hangs s.here) e in
-      record { known = w.known; stays = w.stays; here = rw above_v (first_far s.here (λ q. n (above_v ∙ q))); below = λ m. w.here }
+      let hangs = up_hangs r (first_hangs s.here) e n in
+      record {
+        known = w.known;
+        stays = w.stays;
+        here = rw above_v (first_far s.here (λ q. n (above_v ∙ q)));
+        row = hangs_within r hangs;
+        parent_link = link_within r hangs;
+        below = λ m. w.here;
+      }
 
 module _ {root : ℕ} {starts parent : List ℕ} where
-  pub firsts_none : {first : List ℕ} → Known root starts parent first → FirstLinks root starts parent 0 first
-  firsts_none k = record { known = k; each = λ v l. absurd (not-suc-le-zero l) }
-
   pub firsts_more : {v : ℕ} {first : List ℕ} → FirstLinks root starts parent v first → (Has parent v → Has first v)
       → FirstLinks root starts parent (v + 1) first
   firsts_more {v} {first} a here =

@@ -2,19 +2,25 @@
 use mathlib.Core.Path.{◌≡◌, refl, sym, subst, ◌∙◌}
 use mathlib.Core.Logic.{◌⊎◌, inl, inr}
 use mathlib.Core.Bool.{Bool, true, false, ◌&&◌, and-true, and-false, or-true, cond}
-use Prim.Native.Nat.{ℕ, ◌≤◌, ◌<◌}
+use Prim.Native.Nat.{ℕ, ◌≤◌, ◌<◌, min}
 use native.Mathlib.Omega.{arith}
+use native.Mathlib.Decide.{dec_lt}
 use lib.Dec.{T, eqb, ltb, eqb→eq, ltb→lt}
+use lib.ListN.{length}
 use borrow.Author.Tests.{eq-eqb, lt-ltb}
+use Rattle.std.specs.Prelude.{Option, None, Some}
 use Rattle.rules.specs.Net.{Net}
 use Rattle.rules.specs.Fit.{Rows}
 use Rattle.rules.specs.Tests.{usable, reached, offers, sum_by, breaks}
 use Rattle.rules.specs.Columns.{Table, Arrays, narrow, net_in, rows_in, most_nodes}
 use Rattle.rules.specs.Refusals.{only, Verdict, accepted, refused, judge_links, judge_tree, judge_tree_in}
+use Rattle.rules.specs.Answers.{refusal}
 use Rattle.rules.specs.declared.Profile.{Profile}
+use Rattle.rules.specs.declared.Refusal.{Refusal}
 use Rattle.rules.proofs.Logic.{First, first_is, and_l, and_r, or_cases, true_T, T_true}
-use Rattle.offends.specs.Offends.{has_more, offers_less, offends, LeastOffended}
-use Rattle.alone.specs.Alone.{FirstWrong}
+use Rattle.rules.proofs.OneOutcome.{refusal_refuses}
+use Rattle.offends.specs.Offends.{has_more, offers_less, offends, LeastOffended, LeastOffendedOf}
+use Rattle.alone.specs.Alone.{FirstWrong, FirstWrongOf}
 use Rattle.fit.proofs.Breaks.{Less, bad_row, right_row, bad_offer}
 
 -- ---- what a link that offends offers
@@ -75,34 +81,63 @@ module _ (N : Net) (r : Rows) where
         (λ k h. let offends = offends_at v k h in omega (arith, o.least k h.is_link offends.0, offends.1))
         (f.before.right v l)
 
-    pub row_first : a ≤ b → First (breaks N r) most_nodes a
+    row_first : a ≤ b → First (breaks N r) most_nodes a
     row_first l = record {
       within = f.within;
       before = λ v m. none_before v m (omega arith);
       passes = λ m. bad_row N r a (f.wrong m);
     }
 
-    pub offended_first : 0 < N.mark → b < a → First (breaks N r) most_nodes b
+    offended_first : 0 < N.mark → b < a → First (breaks N r) most_nodes b
     offended_first far l = record {
       within = o.within;
       before = λ v m. none_before v (omega arith) m;
       passes = λ m. let h = o.offended m in bad_offer N r b far (less_at h.link h.is_link h.offends h.ends_at);
     }
 
+    pub smaller_first : 0 < N.mark → {v : ℕ} → v ≡ min a b → First (breaks N r) most_nodes v
+    smaller_first far {v} is = by (dec_lt b a)
+      where
+        by : Dec (b < a) → First (breaks N r) most_nodes v
+        by (yes l) = let same : v ≡ b = omega arith in rw same (offended_first far l)
+        by (no l) = let same : v ≡ a = omega arith in rw same (row_first (omega arith))
+
 -- ---- the verdict
 
-pub tree_decides : (p : Profile) (t : Table) (tree : Arrays) {v : ℕ} → judge_links t ≡ accepted
-    → First (breaks (net_in p t) (rows_in p tree)) most_nodes v
-    → cond (ltb v most_nodes) (refused 6 (only v)) accepted ≡ judge_tree_in p t tree
-tree_decides p t tree right f = rw (right, first_is f)
+module _ (p : Profile) (t : Table) (tree : Arrays) (right : judge_links t ≡ accepted) (far : 0 < p.mark) where
+  decides : {v : ℕ} → First (breaks (net_in p t) (rows_in p tree)) most_nodes v → cond (ltb v most_nodes) (refused 6 (only v)) accepted ≡ judge_tree_in p t tree
+  decides f = rw (right, first_is f)
 
-pub links_decide : (t : Table) (tree : Arrays) (verdict : Verdict) → (verdict ≡ accepted → ⊥)
-    → verdict ≡ judge_links t → verdict ≡ judge_tree t tree
-unfolding judge_tree
-links_decide t tree accepted refuses is = absurd (refuses refl)
-links_decide t tree (refused number values) refuses is = rw (← is)
+  breaks_at : {v : ℕ} → v < most_nodes → First (breaks (net_in p t) (rows_in p tree)) most_nodes v → refused 6 (only v) ≡ judge_tree_in p t tree
+  breaks_at {v} l f = rw (lt-ltb v most_nodes l) at (decides f)
 
-pub narrow_decides : (p : Profile) (t : Table) (tree : Arrays) (verdict : Verdict) → p ≡ narrow → verdict ≡ judge_tree_in p t tree
-    → verdict ≡ judge_tree t tree
+  abbrev FirstRow : Option ℕ → Type 0
+  FirstRow a = FirstWrongOf (net_in p t) (rows_in p tree) a
+
+  abbrev FirstOffended : Option ℕ → Type 0
+  FirstOffended b = LeastOffendedOf (net_in p t) (rows_in p tree).dist (length t.starts) b
+
+  pub both_decide : {a b v : ℕ} → FirstRow (Some a) → FirstOffended (Some b) → v ≡ min a b → refused 6 (only v) ≡ judge_tree_in p t tree
+  both_decide f o is = breaks_at (omega (arith, f.0)) (smaller_first _ _ f.1 o.1 far is)
+
+  pub row_decides : {a : ℕ} → FirstRow (Some a) → FirstOffended None → refused 6 (only a) ≡ judge_tree_in p t tree
+  row_decides f o = breaks_at f.0 (smaller_first _ _ f.1 o far (omega (arith, f.0)))
+
+  pub offended_decides : {b : ℕ} → FirstRow None → FirstOffended (Some b) → refused 6 (only b) ≡ judge_tree_in p t tree
+  offended_decides f o = breaks_at o.0 (smaller_first _ _ f o.1 far (omega (arith, o.0)))
+
+  pub none_decides : FirstRow None → FirstOffended None → accepted ≡ judge_tree_in p t tree
+  none_decides f o = decides {v = most_nodes} (smaller_first _ _ f o far (omega arith))
+
+refused_decides : (t : Table) (tree : Arrays) (verdict : Verdict) → (verdict ≡ accepted → ⊥) → verdict ≡ judge_links t → verdict ≡ judge_tree t tree
 unfolding judge_tree
-narrow_decides p t tree verdict e is = rw e at is
+refused_decides t tree accepted refuses is = absurd (refuses refl)
+refused_decides t tree (refused number values) refuses is = rw (← is)
+
+pub links_refuse : (t : Table) (tree : Arrays) (r : Refusal) → refusal r ≡ judge_links t → refusal r ≡ judge_tree t tree
+links_refuse t tree r is = refused_decides t tree (refusal r) (refusal_refuses r) is
+
+pub narrow_decides : (p : Profile) (t judged : Table) (tree : Arrays) (verdict : Verdict) → p ≡ narrow → judged ≡ t
+    → verdict ≡ judge_tree_in p judged tree → verdict ≡ judge_tree t tree
+unfolding judge_tree
+narrow_decides p t judged tree verdict e same is = rw (e, same) at is

@@ -5,13 +5,9 @@
 #![tactic(auto)]
 
 use reader::Reader;
-use rules::{Answer, Change};
+use rules::{Change, Links, NO_LINK, Refusal, UNREACHED};
 use stream::{Item, Read};
 use tree::{NextTree, Tree};
-
-const UNREACHED: u32 = 16_777_215;
-
-const NONE: u16 = 65_535;
 
 const STARTS: [u16; 8] = [0, 0, 1, 1, 2, 2, 2, 3];
 
@@ -24,25 +20,26 @@ const LIST: [u16; 6] = [7001, 7002, 7003, 7004, 7005, 7006];
 
 // ---- the two forms
 
+// The links of all cases.
+fn links() -> Links<'static> {
+    Links {
+        nodes: 4,
+        root: 0,
+        starts: &STARTS,
+        ends: &ENDS,
+    }
+}
+
 // The rows lent as a slice.
-fn by_rows(
-    t: Tree,
-    starts: &[u16],
-    ends: &[u16],
-    costs: &mut [u16],
-    rows: [Change; 2],
-    list: &mut [u16],
-) -> NextTree {
-    t.update(4, 0, starts, ends, costs, &rows, list)
+fn by_rows(t: Tree, costs: &mut [u16], rows: [Change; 2], list: &mut [u16]) -> NextTree {
+    t.update(&links(), costs, &rows, list)
 }
 
 // What a reader gives that is asked once and `more` times again, and the place at which it then stands.
 fn asked(stream: &[u8], more: usize) -> Read {
     let mut step = Reader::new(stream).next();
-    let mut i: usize = 0;
-    while i < more {
+    for _ in 0..more {
         step = step.reader.next();
-        i += 1;
     }
     Read {
         item: step.item,
@@ -76,16 +73,14 @@ fn say_entry(n: u16) {
 
 fn say_column(column: &[u16]) {
     bar();
-    let mut i: usize = 0;
-    while i < column.len() {
-        say_entry(column[i]);
-        i += 1;
+    for entry in column {
+        say_entry(*entry);
     }
 }
 
 fn say_link(link: u16) {
     io::write_all(1, b",");
-    if link == NONE {
+    if link == NO_LINK {
         io::write_all(1, b"-");
         return;
     }
@@ -93,7 +88,7 @@ fn say_link(link: u16) {
 }
 
 fn say_row(node: usize, dist: u32, parent: u16, first: u16) {
-    if dist == UNREACHED && parent == NONE && first == NONE {
+    if dist == UNREACHED && parent == NO_LINK && first == NO_LINK {
         return;
     }
     say_number(node as u64);
@@ -105,63 +100,49 @@ fn say_row(node: usize, dist: u32, parent: u16, first: u16) {
 
 fn say_rows(t: Tree) {
     bar();
-    let mut v: usize = 0;
-    while v < 256 {
+    for v in 0..256 {
         say_row(v, t.dist[v], t.parent[v], t.first[v]);
-        v += 1;
     }
 }
 
-fn say_answer(answer: Answer, count: usize) {
+fn say_answer(counted: Result<usize, Refusal>) {
+    let answer = counted.map(|_| ());
     say_number(rules::number(answer) as u64);
     say_number(rules::value(answer) as u64);
     say_number(rules::second(answer) as u64);
-    say_number(count as u64);
+    say_number(counted.unwrap_or(0) as u64);
 }
 
 // ---- batches
 
+fn row(link: u16, cost: u16) -> Change {
+    Change { link, cost }
+}
+
 // A batch of two rows, from a tree and the costs that stand.
-fn step(
-    name: &[u8],
-    t: Tree,
-    costs: &mut [u16],
-    link: u16,
-    cost: u16,
-    other: u16,
-    other_cost: u16,
-) -> Tree {
+fn step(name: &[u8], t: Tree, costs: &mut [u16], rows: [Change; 2]) -> Tree {
     let mut list = LIST;
-    let rows = [
-        Change { link, cost },
-        Change {
-            link: other,
-            cost: other_cost,
-        },
-    ];
-    let next = by_rows(t, &STARTS, &ENDS, costs, rows, &mut list);
-    let tree = next.tree;
-    let answer = next.answer;
+    let next = by_rows(t, costs, rows, &mut list);
     say_name(name);
-    say_answer(answer, next.count);
-    say_rows(tree);
+    say_answer(next.answer);
+    say_rows(next.tree);
     say_column(costs);
     say_column(&list);
     line_end();
-    tree
+    next.tree
 }
 
 // From P1; the second row leaves link 2's cost as it is.
 fn from_p1(name: &[u8], p1: Tree, link: u16, cost: u16) {
     let mut costs = COSTS;
-    step(name, p1, &mut costs, link, cost, 2, 4);
+    step(name, p1, &mut costs, [row(link, cost), row(2, 4)]);
 }
 
 fn in_sequence(p1: Tree) {
     let mut costs = COSTS;
-    let p2 = step(b"P2", p1, &mut costs, 3, 5, 0, 2);
-    let p4 = step(b"P4", p2, &mut costs, 3, 6, 2, 4);
-    step(b"P5", p4, &mut costs, 3, 5, 2, 4);
+    let p2 = step(b"P2", p1, &mut costs, [row(3, 5), row(0, 2)]);
+    let p4 = step(b"P4", p2, &mut costs, [row(3, 6), row(2, 4)]);
+    step(b"P5", p4, &mut costs, [row(3, 5), row(2, 4)]);
 }
 
 fn each_from_p1(p1: Tree) {
@@ -216,16 +197,13 @@ fn say_item(item: Item) {
 }
 
 fn read(name: &[u8], stream: &[u8], times: usize) {
-    let mut i: usize = 0;
-    while i < times {
-        let read = asked(stream, i);
-        let item = read.item;
+    for more in 0..times {
+        let read = asked(stream, more);
         say_name(name);
-        say_item(item);
+        say_item(read.item);
         bar();
         say_number(read.next as u64);
         line_end();
-        i += 1;
     }
 }
 
@@ -247,7 +225,7 @@ fn damaged() {
 }
 
 fn main() {
-    let p1 = Tree::build(4, 0, &STARTS, &ENDS, &COSTS).tree;
+    let p1 = Tree::build(&links(), &COSTS).tree;
     in_sequence(p1);
     each_from_p1(p1);
     whole_and_cut();

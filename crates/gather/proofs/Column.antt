@@ -21,9 +21,10 @@ use denote.Plain.{uint_Makes, uint_Lawful, uint_vals, uint_Tells}
 use denote.Builtin.{u16}
 use denote.Array.{Array, each, array_val, Array-Lawful, Array-Makes, Array-Tells}
 use denote.Steps.{owned, facts}
-use Rattle.gather.specs.declared.Rows.{Rows}
-use Rattle.gather.specs.Gathering.{most_read, blank}
-use Rattle.gather.specs.contracts.Rows as R
+use Rattle.gather.specs.declared.rows.Rows.{Rows}
+use Rattle.gather.specs.Most.{most_read}
+use Rattle.gather.specs.Gathering.{blank}
+use Rattle.gather.specs.contracts.rows.Rows as R
 
 abbrev pub column : RattleType
 column = Array u16 most_read

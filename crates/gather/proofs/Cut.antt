@@ -13,8 +13,9 @@ use Rattle.rules.specs.Refusals.{only, Verdict, accepted, refused, ◌then◌, w
 use Rattle.rules.specs.Jobs.{Updated, updated, not_updated}
 use Rattle.rules.specs.declared.Change.{Change}
 use Rattle.rules.proofs.Judged.{not_refused}
-use Rattle.gather.specs.declared.Rows.{Rows}
-use Rattle.gather.specs.Gathering.{most_read, batch_of, Gathered}
+use Rattle.gather.specs.declared.rows.Rows.{Rows}
+use Rattle.gather.specs.Most.{most_read}
+use Rattle.gather.specs.Gathering.{batch_of, Gathered}
 
 module _ (t : Table) (old : Arrays) (list : List ℕ) where
   -- the verdict on a batch of too many rows, whatever they are

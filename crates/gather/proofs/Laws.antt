@@ -1,16 +1,16 @@
 -- Storing one row after another gathers the first rows of a batch. Assumes nothing.
 use mathlib.Core.Path.{◌≡◌, refl, sym, ap, ◌∙◌}
 use mathlib.Core.List.{List, [], ◌∷◌, ◌++◌}
-use Prim.Native.Nat.{ℕ, ◌+◌, ◌≤◌, ◌<◌}
+use Rattle.std.proofs.lemmas.List.{take_min, length-take}
+use Prim.Native.Nat.{ℕ, min, ◌+◌, ◌≤◌, ◌<◌}
 use native.Mathlib.Omega.{arith}
 use native.Mathlib.Numerals.{add-one}
-use native.Mathlib.Decide.{dec_lt}
 use lib.ListN.{length, get_or, set, take, drop, length-set, length-replicate}
 use lib.Seq.{take-suc, take_all, take-suc-set, length-take-le, drop-drop, drop-set-lt}
-use borrow.Author.Tests.{lt-ltb, le-ltb}
 use Rattle.rules.specs.declared.Change.{Change}
 use Rattle.batch.specs.Rows.{rows_of_columns}
-use Rattle.gather.specs.Gathering.{most_read, least, blank, Gathered}
+use Rattle.gather.specs.Most.{most_read}
+use Rattle.gather.specs.Gathering.{blank, Gathered}
 
 -- what stands past a batch's end, where nothing is read
 abbrev pub no_row : Change
@@ -70,32 +70,15 @@ module _ (batch : List Change) (i : ℕ) (links costs : List ℕ) (before : Upto
 
 -- ---- as many as are read
 
-pub least_left : (a b : ℕ) → least a b ≤ a
-least_left a b = at (dec_lt a b)
-  where
-    at : Dec (a < b) → least a b ≤ a
-    at (yes l) = rw (lt-ltb a b l) (omega arith)
-    at (no l) = rw (le-ltb a b (omega arith)) (omega arith)
-
-pub least_right : (a b : ℕ) → least a b ≤ b
-least_right a b = at (dec_lt a b)
-  where
-    at : Dec (a < b) → least a b ≤ b
-    at (yes l) = rw (lt-ltb a b l) (omega arith)
-    at (no l) = rw (le-ltb a b (omega arith)) (omega arith)
-
-take_least : (batch : List Change) (most : ℕ) → take (least (length batch) most) batch ≡ take most batch
-take_least batch most = at (dec_lt (length batch) most)
-  where
-    at : Dec (length batch < most) → take (least (length batch) most) batch ≡ take most batch
-    at (yes l) = rw (lt-ltb (length batch) most l) (take_all (length batch) batch (omega arith) ∙ sym (take_all most batch (omega arith)))
-    at (no l) = rw (le-ltb (length batch) most (omega arith)) refl
-
-pub upto_all : (batch : List Change) (links costs : List ℕ) → Upto batch (least (length batch) most_read) links costs
-    → Gathered batch (record { link = links; cost = costs; count = least (length batch) most_read })
-upto_all batch links costs all = record {
-  rows = all.rows ∙ take_least batch most_read;
-  few = least_right (length batch) most_read;
-  links_past = all.links_past;
-  costs_past = all.costs_past;
-}
+pub upto_all : (batch : List Change) {links costs : List ℕ} {n : ℕ} → n ≡ min (length batch) most_read → {i : ℕ} → i ≡ length (take n batch)
+    → Upto (take n batch) i links costs → {few : n ≤ most_read} → Gathered batch (record { link = links; cost = costs; count = n; few = few })
+upto_all batch {n = n} e {i} end all =
+    let read : n ≡ min most_read (length batch) = omega arith in
+    let same : i ≡ n = omega (arith, length-take {A = Change}) in
+    let whole = rw same at all in
+    record {
+      rows = whole.rows ∙ take_all n (take n batch) (omega arith) ∙ rw (read, take_min) refl;
+      few = omega arith;
+      links_past = whole.links_past;
+      costs_past = whole.costs_past;
+    }

@@ -1,15 +1,9 @@
 -- The rows of a batch by columns, as many as are read of it. Assumes nothing.
-use Rattle.std.specs.Prelude.{cond, ◌≡◌, List, ℕ, ◌≤◌, ltb, replicate, take, drop}
+use Rattle.std.specs.Prelude.{◌≡◌, List, ℕ, ◌≤◌, replicate, take, drop}
 use Rattle.rules.specs.declared.Change.{Change}
 use Rattle.batch.specs.Rows.{rows_of_columns}
-use Rattle.gather.specs.declared.Rows.{Rows}
-
--- one row more than a batch may have: a batch that has it is refused, whatever stands behind it
-abbrev pub most_read : ℕ
-most_read = 257
-
-abbrev pub least : ℕ → ℕ → ℕ
-least a b = cond (ltb a b) a b
+use Rattle.gather.specs.Most.{most_read}
+use Rattle.gather.specs.declared.rows.Rows.{Rows}
 
 -- a column before any row is stored
 abbrev pub blank : List ℕ

@@ -6,9 +6,7 @@ use mathlib.Core.List.{List}
 use Prim.Native.Nat.{ℕ, ◌+◌, ◌≤◌, ◌<◌}
 use native.Mathlib.Omega.{arith}
 use native.Mathlib.Decide.{ℕ_discrete, dec_lt}
-use lib.Dec.{eqb}
 use lib.ListN.{length, get_or, replicate}
-use borrow.Author.Tests.{eq-eqb, ne_eqb}
 use Rattle.rules.specs.Net.{Net, Legal, Usable}
 use Rattle.rules.specs.Fit.{Tight, Row, root, hung, bare}
 use Rattle.rules.specs.Keep.{Smallest}
@@ -19,11 +17,11 @@ use Rattle.basics.proofs.Arrays.{filled, leaving}
 use Rattle.sums.proofs.Distances.{root_not_tight, next_fresh}
 use Rattle.level.specs.Level.{Level, leveled, Ample}
 use Rattle.level.proofs.Laws as leveling
-use Rattle.queue.specs.Queue.{empty, LeastKey}
+use Rattle.queue.specs.Queue.{empty, NoneWaits}
 use Rattle.firsts.specs.FirstLinks.{FirstBy, Standing}
 use Rattle.firsts.proofs.Laws.{standing_firsts}
-use Rattle.keep.specs.Kept.{Holds, StandingLinks}
-use Rattle.whole.proofs.Whole.{Hangable, Hanged, tight_holds, holds_tight, Best, finds, lacks, AllBest, AllPicked, on_old, on_none, Picked, picked_rising, hanged}
+use Rattle.keep.specs.Kept.{Holds, AllKept, StandingLinks}
+use Rattle.whole.proofs.Whole.{Hangable, Hanged, tight_holds, holds_tight, Best, finds, lacks, AllBest, AllPicked, all_picked, on_old, on_none, Picked, picked_rising, hanged}
 use Rattle.offer.specs.Offer.{dist_at, key_at, found_at, Lined}
 use Rattle.offer.proofs.Laws.{waits_now}
 use Rattle.afoot.specs.Afoot.{Every, Untouched, Calm, Partly, Settled, Fallen, same, lower, Fell}
@@ -61,7 +59,7 @@ ample_legal p proper ample = record {
 -- ---- an old tree and an empty queue
 
 module _ (p : Profile) {t : Table} {tree : Arrays} where
-  pub ready : Level (net_in p t) → Old p t tree → Liftable (net_in p t) tree.dist (replicate 256 empty) (replicate 72 empty)
+  pub ready : Level (net_in p t) → Old p t tree → Liftable (net_in p t) tree.dist (replicate 256 empty)
   ready level o = record { lined = lined_none level.mark_fits o.whole.dist o.most; root_zero = o.root_zero; none_waits = filled 256 empty }
 
   pub rooted : Old p t tree → Rooted (net_in p t) tree.parent
@@ -98,7 +96,7 @@ module _ (p : Profile) {t : Table} {rows : List ℕ} {tree : Arrays} (f : Fitted
 
   module _ (level : Level N) where
     -- a node whose parent link no row touches is carried as before
-    pub stand_apart : StandApart N tree.parent rows 0 tree.dist (replicate 256 empty) (replicate 72 empty)
+    pub stand_apart : StandApart N tree.parent rows 0 tree.dist (replicate 256 empty)
     stand_apart =
         let r = ready p level f.old in
         record { lined = r.lined; root_zero = r.root_zero; root_idle = r.none_waits t.root; standing = λ v u. at u (f.fits.row v) }
@@ -164,24 +162,24 @@ module _ {N : Net} {dist first dist' first' : List ℕ} where
   lifted_long (none d e) long = rw e long
   lifted_long (some fates) long = fates.long
 
-pub carried_all : {N : Net} {parent dist keys mins : List ℕ} → Lifted N parent dist keys mins → AllCarried N parent dist
+pub carried_all : {N : Net} {parent dist keys : List ℕ} → Lifted N parent dist keys → AllCarried N parent dist
 carried_all l = record { carried = l.carried }
 
 -- every link is offered, and none was found before
-pub seeded : {N : Net} {parent dist keys dist' keys' mins' found' : List ℕ} {done : ℕ → Type 0} → AllCarried N parent dist
-    → Partly N Every dist' keys' mins' → GoesOn N done dist keys (replicate 256 N.none) Every dist' keys' found'
-    → Begun N parent dist' keys' mins' found'
+pub seeded : {N : Net} {parent dist keys dist' keys' found' : List ℕ} {done : ℕ → Type 0} → AllCarried N parent dist
+    → Partly N Every dist' keys' → GoesOn N done dist keys (replicate 256 N.none) Every dist' keys' found'
+    → Begun N parent dist' keys' found'
 seeded {N} {dist = dist} c p g =
     record { stood = dist; carried = c; afoot = p; finding = g.on dist (finding_none (filled 256 N.none)); found_long = g.long }
 
 -- the links into lifted nodes are offered, then those that the rows touch
-pub heard_both : {N : Net} {rows dist keys first found dist' keys' mins' found' dist'' keys'' mins'' found'' : List ℕ} {lifted : Bool}
-    → Apart N rows dist keys lifted first → Heard N (Calm N dist keys) dist keys found (CalmOr N dist keys lifted first) dist' keys' mins' found'
-    → Heard N (Untouched N rows 0) dist' keys' found' Every dist'' keys'' mins'' found'' → Heard N (Calm N dist keys) dist keys found Every dist'' keys'' mins'' found''
+pub heard_both : {N : Net} {rows dist keys first found dist' keys' found' dist'' keys'' found'' : List ℕ} {lifted : Bool}
+    → Apart N rows dist keys lifted first → Heard N (Calm N dist keys) dist keys found (CalmOr N dist keys lifted first) dist' keys' found'
+    → Heard N (Untouched N rows 0) dist' keys' found' Every dist'' keys'' found'' → Heard N (Calm N dist keys) dist keys found Every dist'' keys'' found''
 heard_both a into rows = heard_then (heard_fewer into a.apart) rows
 
 -- where nothing waits no node has fallen
-pub unmoved : {N : Net} {dist keys mins dist' keys' : List ℕ} → Lined N.mark dist keys mins → Fell N dist keys dist' keys'
+pub unmoved : {N : Net} {dist keys dist' keys' : List ℕ} → Lined N.mark dist keys → Fell N dist keys dist' keys'
     → ((v : ℕ) → key_at keys' v ≡ empty) → (v : ℕ) → dist_at N dist' v ≡ dist_at N dist v
 unmoved {N} {dist} {keys} {dist' = dist'} {keys' = keys'} l f rest v = at (f.each v)
   where
@@ -191,7 +189,7 @@ unmoved {N} {dist} {keys} {dist' = dist'} {keys' = keys'} l f rest v = at (f.eac
 
 -- ---- what the loop found is what hanging asks for
 
-module _ (p : Profile) {t : Table} (proper : Proper t) (level : Level (net_in p t)) {dist keys mins : List ℕ} (s : Settled (net_in p t) dist keys mins) where
+module _ (p : Profile) {t : Table} (proper : Proper t) (level : Level (net_in p t)) {dist keys : List ℕ} (s : Settled (net_in p t) dist keys) where
   abbrev net : Net
   net = net_in p t
 
@@ -228,11 +226,11 @@ module _ (p : Profile) {t : Table} (proper : Proper t) (level : Level (net_in p 
             finds h (λ j b. (here v a h).smallest j (holds_tight p t dist found found b))
 
   -- no node but the root is reached to begin with
-  pub built_best : {old keys₀ mins₀ found : List ℕ} → Alone net old keys₀ mins₀ → Comes net old keys₀ (replicate 256 no_link) dist found
+  pub built_best : {old keys₀ found : List ℕ} → Alone net old keys₀ → Comes net old keys₀ (replicate 256 no_link) dist found
       → AllBest net far (λ v. Unit {0}) found
   built_best alone c = all_best (c.comes _ (finding_none (filled 256 no_link))) c.long (λ v a n l. omega (arith, alone.far v n))
 
-  module _ {parent dist₁ keys₁ mins₁ found₁ found : List ℕ} (begun : Begun net parent dist₁ keys₁ mins₁ found₁)
+  module _ {parent dist₁ keys₁ found₁ found : List ℕ} (begun : Begun net parent dist₁ keys₁ found₁)
       (c : Comes net dist₁ keys₁ found₁ dist found) where
     came : Found net begun.stood dist found
     came = c.comes begun.stood begun.finding
@@ -245,13 +243,16 @@ module _ (p : Profile) {t : Table} (proper : Proper t) (level : Level (net_in p 
         let tight = carries_tight level (found_at net found) (found_at net found) s (record { comes = l; carries = carries }) in
         tight_holds p t dist found found (λ e. omega arith) tight
 
-    pub kept_best : AllBest net far (λ v. ¬ (Holds net far v (get_or parent v no_link))) found
+    kept_best : AllBest net far (λ v. ¬ (Holds net far v (get_or parent v no_link))) found
     kept_best = all_best came c.long (λ v loose n l. at v loose n l (dec_lt (dist_at net dist v) (dist_at net begun.stood v)))
       where
         at : (v : ℕ) → ¬ (Holds net far v (get_or parent v no_link)) → v ≢ t.root → far v < p.mark
             → Dec (dist_at net dist v < dist_at net begun.stood v) → Moved net begun.stood dist v
         at v loose n l (yes less) = less
         at v loose n l (no not_less) = absurd (loose (unmoved_held v n l not_less))
+
+    pub kept_picked : {parent' : List ℕ} → AllKept net far found parent parent' → AllPicked net far parent parent'
+    kept_picked k = all_picked k kept_best
 
     -- so is one for which no link was found
     pub standing_links : Rooted net parent → StandingLinks net far found parent
@@ -311,40 +312,28 @@ module _ (p : Profile) {t : Table} (proper : Proper t) (level : Level (net_in p 
 
 -- ---- whether the loop has to run
 
-reseeded_still : {N : Net} {parent dist keys mins found tree_dist tree_first first dist' keys' mins' found' : List ℕ} {lifted : Bool}
-    → Level N → Lifted N parent dist keys mins → LiftedRows N tree_dist tree_first dist first lifted → lifted ≡ false
-    → Heard N (Calm N dist keys) dist keys found Every dist' keys' mins' found' → LeastKey mins' empty
-    → Reseeded N parent tree_dist tree_first dist' first keys' mins' false
-reseeded_still level l r e heard least =
+reseeded_still : {N : Net} {parent dist keys found tree_dist tree_first first dist' keys' found' : List ℕ} {lifted : Bool}
+    → Level N → Lifted N parent dist keys → LiftedRows N tree_dist tree_first dist first lifted → lifted ≡ false
+    → Heard N (Calm N dist keys) dist keys found Every dist' keys' found' → NoneWaits keys'
+    → Reseeded N parent tree_dist tree_first dist' first keys' false
+reseeded_still level l r e heard idle =
     let none = not_lifted r e in
-    let settled = settled level heard.partly least refl in
+    let settled = settled level heard.partly idle in
     let equal = unmoved l.begun.lined heard.fell settled.none_waits in
     still settled (rw none.0 at (carried_all l)) (rw none.0 at equal) none.1
 
-by_key : (Says : Bool → Type 0) (key : ℕ) → (key ≡ empty → Says false) → Says true → Says (not (eqb key empty))
-by_key Says key rests runs = at (ℕ_discrete key empty)
-  where
-    at : Dec (key ≡ empty) → Says (not (eqb key empty))
-    at (yes e) = rw (eq-eqb key empty e) (rests e)
-    at (no n) = rw (ne_eqb key empty n) runs
+pub reseeded : {N : Net} {parent dist keys found tree_dist tree_first first dist' keys' found' : List ℕ} {lifted : Bool} (idle : Bool)
+    → Level N → Lifted N parent dist keys → LiftedRows N tree_dist tree_first dist first lifted → lifted ≡ false → length first ≡ most_nodes
+    → Heard N (Calm N dist keys) dist keys found Every dist' keys' found' → (idle ≡ true → NoneWaits keys')
+    → Reseeded N parent tree_dist tree_first dist' first keys' (not idle)
+reseeded true level l r e long heard says = reseeded_still level l r e heard (says refl)
+reseeded false level l r e long heard says = moves long
 
-pub reseeded : {N : Net} {parent dist keys mins found tree_dist tree_first first dist' keys' mins' found' : List ℕ} {lifted : Bool} {key : ℕ}
-    → Level N → Lifted N parent dist keys mins → LiftedRows N tree_dist tree_first dist first lifted → lifted ≡ false → length first ≡ most_nodes
-    → Heard N (Calm N dist keys) dist keys found Every dist' keys' mins' found' → LeastKey mins' key
-    → Reseeded N parent tree_dist tree_first dist' first keys' mins' (not (eqb key empty))
-reseeded {N} {parent} {tree_dist = tree_dist} {tree_first = tree_first} {first = first} {dist' = dist'} {keys' = keys'} {mins' = mins'} {key = key} level l r e long heard least =
-    by_key (Reseeded N parent tree_dist tree_first dist' first keys' mins') key (λ q. reseeded_still level l r e heard (rw q at least)) (moves long)
-
-pub has_to_run : {N : Net} {parent dist first dist' first' keys' mins' : List ℕ} {runs : Bool}
-    → Reseeded N parent dist first dist' first' keys' mins' runs → not runs ≡ false → length first' ≡ most_nodes
-has_to_run (still s c e f) q = absurd (true_false q)
-has_to_run (moves long) q = long
-
-pub regrown_stopped : (p : Profile) {t : Table} {rows : List ℕ} {tree : Arrays} {dist first keys mins : List ℕ} {runs : Bool} → Proper t → Level (net_in p t)
-    → Fitted p t rows tree → Reseeded (net_in p t) tree.parent tree.dist tree.first dist first keys mins runs → not runs ≡ true
+pub regrown_stopped : (p : Profile) {t : Table} {rows : List ℕ} {tree : Arrays} {dist first keys : List ℕ} {runs : Bool} → Proper t → Level (net_in p t)
+    → Fitted p t rows tree → Reseeded (net_in p t) tree.parent tree.dist tree.first dist first keys runs → runs ≡ false
     → Regrown p t tree.parent (arrays dist tree.parent first)
 regrown_stopped p proper level f (still s c e g) q = rw g (regrown_still p proper level s f c e)
-regrown_stopped p proper level f (moves long) q = absurd (true_false (sym q))
+regrown_stopped p proper level f (moves long) q = absurd (true_false q)
 
 -- ---- where the mark is taken for the ceiling
 

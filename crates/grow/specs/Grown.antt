@@ -45,15 +45,15 @@ pub record Apart (N : Net) (rows dist keys : List ℕ) (lifted : Bool) (first : 
 
 -- the loop can start: the nodes were carried while they had the distances that stood, and what is known of the links
 -- found since
-pub record Begun (N : Net) (parent dist keys mins found : List ℕ) : Type 0 where
+pub record Begun (N : Net) (parent dist keys found : List ℕ) : Type 0 where
   pub stood : List ℕ
   pub carried : AllCarried N parent stood
-  pub afoot : Afoot N dist keys mins
+  pub afoot : Afoot N dist keys
   pub finding : Finding N Every stood dist keys found
   pub found_long : length found ≡ most_nodes
 
 -- what the answer says: nothing changed, and nothing waits; or the loop has to run
-pub data Reseeded (N : Net) (parent dist first dist' first' keys' mins' : List ℕ) : Bool → Type 0 where
-  still : Settled N dist' keys' mins' → AllCarried N parent dist → ((v : ℕ) → dist_at N dist' v ≡ dist_at N dist v) → first' ≡ first
-      → Reseeded N parent dist first dist' first' keys' mins' false
-  moves : length first' ≡ most_nodes → Reseeded N parent dist first dist' first' keys' mins' true
+pub data Reseeded (N : Net) (parent dist first dist' first' keys' : List ℕ) : Bool → Type 0 where
+  still : Settled N dist' keys' → AllCarried N parent dist → ((v : ℕ) → dist_at N dist' v ≡ dist_at N dist v) → first' ≡ first
+      → Reseeded N parent dist first dist' first' keys' false
+  moves : length first' ≡ most_nodes → Reseeded N parent dist first dist' first' keys' true

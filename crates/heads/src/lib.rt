@@ -10,12 +10,10 @@ pub fn first_links(starts: &[u16]) -> [u16; 256]
     requires { Leaving starts.now }
     ensures { Heads starts.now result }
 {
-    let mut k = starts.len();
-    let mut at = [k as u16; 256];
-    while 0 < k {
-        k -= 1;
-        let start = starts[k] as usize;
-        at[start] = k as u16;
+    let links = starts.len();
+    let mut at = [links as u16; 256];
+    for k in (0..links).rev() {
+        at[starts[k] as usize] = k as u16;
     }
     at
 }

@@ -4,12 +4,15 @@ use mathlib.Core.Bool.{Bool, true, false}
 use mathlib.Core.List.{List}
 use Prim.Native.Nat.{ℕ, ◌≤◌, ◌<◌}
 use lib.Dec.{eqb}
-use lib.ListN.{length}
+use native.Mathlib.Omega.{arith}
+use lib.ListN.{length, get_or}
 use borrow.Author.Tests.{lt-ltb, le-ltb, le-leb, lt-leb}
 use Rattle.rules.specs.Tests.{reached}
-use Rattle.rules.specs.Columns.{Table, Arrays, rows_of, unreached}
+use Rattle.rules.specs.Columns.{Table, Arrays, Whole, rows_of, unreached}
 use Rattle.rules.specs.Refusals.{Values, only, Verdict, accepted, refused, when, judge_tree, judge_batch, judge_update, judge_asked}
 use Rattle.rules.specs.declared.Change.{Change}
+use Rattle.rules.proofs.Logic.{get_d_any}
+use Rattle.rules.proofs.OneOutcome.{tree_links}
 
 -- ---- a verdict that is no acceptance
 
@@ -60,6 +63,10 @@ module _ (t : Table) (tree : Arrays) (node : ℕ) where
   pub node_refuses : judge_tree t tree ≡ accepted → t.nodes ≤ node → refused 10 (only 0) ≡ judge_asked t tree node
   unfolding judge_asked
   node_refuses e l = rw (e, le-leb t.nodes node l) refl
+
+  -- what the code reads is the node's distance
+  pub read_dist : judge_tree t tree ≡ accepted → Whole tree → node < t.nodes → (rows_of tree).dist node ≡ get_or tree.dist node 0
+  read_dist e w l = get_d_any tree.dist node unreached 0 (omega (arith, (tree_links t tree e).few_nodes, w.dist))
 
   pub unreached_decides : judge_tree t tree ≡ accepted → node < t.nodes → (b : Bool) → eqb ((rows_of tree).dist node) unreached ≡ b
       → when b 11 ≡ judge_asked t tree node

@@ -1,76 +1,43 @@
-// The refusals of an update and of a path, over a lent table and lent arrays.
+// The refusals of an update and of a path, over a lent table and a lent tree.
 #![tactic(auto)]
 
-ghost use Rattle.std.specs.Prelude.{◌≡◌, ◌<◌, eqb, length, get_or};
+ghost use Rattle.std.specs.Prelude.{◌≡◌};
 ghost use Rattle.rules.specs.Answers.{told};
-ghost use Rattle.rules.specs.Columns.{Whole, unreached, table, arrays};
 ghost use Rattle.rules.specs.Refusals.{judge_update, judge_asked};
-ghost use Rattle.batch.specs.Rows.{rows_of_columns};
+ghost use Rattle.rules.specs.Lent.{table_of, arrays_of};
+ghost use Rattle.batch.specs.Rows.{rows_of};
 
-use rules::{Answer, UNREACHED};
+use batch::Columns;
+use rules::{Arrays, Links, Refusal, UNREACHED};
 
-// Refusals 1 to 9 and 12, in their order. The arrays are whole by their type.
-pub fn judge_update<'a>(
-    nodes: usize,
-    root: usize,
-    starts: &[u16],
-    ends: &[u16],
+// Refusals 1 to 9 and 12, in their order.
+pub fn judge_update(
+    links: &Links,
     costs: &[u16],
-    dist: &'a [u32; 256],
-    parent: &'a [u16; 256],
-    first: &'a [u16; 256],
-    changed: &[u16],
-    newcosts: &[u16],
+    old: &Arrays,
+    batch: &Columns,
     list: &[u16],
-) -> Answer
-    ensures judged { told result ≡ judge_update (table nodes root starts.now ends.now costs.now) (arrays dist.now parent.now first.now) (rows_of_columns changed.now newcosts.now) list.now }
-    ensures whole { Whole (arrays dist.now parent.now first.now) }
+) -> Result<(), Refusal>
+    ensures { told result ≡ judge_update (table_of links.now costs.now) (arrays_of old.now) (rows_of batch.now) list.now }
 {
-    let tree = fit::judge_lent(nodes, root, starts, ends, costs, dist, parent, first);
-    if rules::number(tree) != 0 {
-        return tree;
+    fit::judge_rows(links, costs, old)?;
+    batch::judge_batch(links.starts.len(), batch)?;
+    if list.len() < links.nodes {
+        return Err(Refusal::ListTooShort);
     }
-    let rows = batch::judge_batch(starts.len(), changed, newcosts);
-    if rules::number(rows) != 0 {
-        return rows;
-    }
-    if list.len() < nodes {
-        return Answer::ListTooShort;
-    }
-    Answer::Accepted
-}
-
-fn is_unreached(dist: &[u32], node: usize) -> bool
-    requires { node < length dist.now }
-    ensures { result ≡ eqb (get_or dist.now node 0) unreached }
-{
-    dist[node] == UNREACHED
+    Ok(())
 }
 
 // Refusals 1 to 6, 10 and 11, in their order.
-pub fn judge_asked<'a>(
-    nodes: usize,
-    root: usize,
-    starts: &[u16],
-    ends: &[u16],
-    costs: &[u16],
-    dist: &'a [u32; 256],
-    parent: &'a [u16; 256],
-    first: &'a [u16; 256],
-    node: usize,
-) -> Answer
-    ensures judged { told result ≡ judge_asked (table nodes root starts.now ends.now costs.now) (arrays dist.now parent.now first.now) node }
-    ensures whole { Whole (arrays dist.now parent.now first.now) }
+pub fn judge_asked(links: &Links, costs: &[u16], tree: &Arrays, node: usize) -> Result<(), Refusal>
+    ensures { told result ≡ judge_asked (table_of links.now costs.now) (arrays_of tree.now) node }
 {
-    let answer = fit::judge_lent(nodes, root, starts, ends, costs, dist, parent, first);
-    if rules::number(answer) != 0 {
-        return answer;
+    fit::judge_rows(links, costs, tree)?;
+    if links.nodes <= node {
+        return Err(Refusal::AskedNoNode);
     }
-    if nodes <= node {
-        return Answer::AskedNoNode;
+    if tree.dist[node] == UNREACHED {
+        return Err(Refusal::AskedUnreached);
     }
-    if is_unreached(dist, node) {
-        return Answer::AskedUnreached;
-    }
-    Answer::Accepted
+    Ok(())
 }

@@ -6,12 +6,12 @@ use Prim.Native.Nat.{ℕ, ◌+◌, ◌≤◌, ◌<◌}
 use native.Mathlib.Omega.{arith}
 use native.Mathlib.Decide.{ℕ_discrete}
 use lib.Dec.{T, ltb, ltb→lt, lt→ltb}
-use lib.ListN.{length, get_or, set, length-set}
+use lib.ListN.{set, length-set}
 use lib.Seq.{get_or-set_same, get_or-set_other}
 use Rattle.rules.specs.Net.{Net, at_root, along}
 use Rattle.rules.specs.Columns.{most_nodes}
 use Rattle.rules.proofs.Logic.{by_size, count_lt}
-use Rattle.queue.specs.Queue.{empty, LeastKey, Rekeyed}
+use Rattle.queue.specs.Queue.{empty, NoneWaits}
 use Rattle.offer.specs.Offer.{dist_at, key_at, Keyed, idle, Lined}
 use Rattle.afoot.specs.Afoot.{Within}
 use Rattle.afoot.specs.Finding.{Carries}
@@ -21,14 +21,8 @@ use Rattle.lift.specs.Loose.{parent_at, Stands, Hangs, AllStand, StandBut, Lifte
 
 -- ---- a node goes to unreached
 
--- every node stands, the key is the least, and what was lifted since the distances were `old` is known
-pub record Lifting (N : Net) (parent old dist first keys mins : List ℕ) (key : ℕ) : Type 0 where
-  pub stands : AllStand N parent dist keys mins
-  pub least : LeastKey mins key
-  pub fates : Fates N old dist first
-
-module _ {N : Net} {parent dist keys mins : List ℕ} (h : AllStand N parent dist keys mins) {u : ℕ} (w : Chosen N.mark dist keys u)
-    {keys' mins' : List ℕ} (r : Rekeyed keys u empty keys' mins') where
+module _ {N : Net} {parent dist keys : List ℕ} (h : AllStand N parent dist keys) {u : ℕ} (w : Chosen N.mark dist keys u)
+    {keys' : List ℕ} (r : keys' ≡ set keys u empty) where
   not_root : N.root ≢ u
   not_root e = w.waiting (rw e at h.root_idle)
 
@@ -39,17 +33,17 @@ module _ {N : Net} {parent dist keys mins : List ℕ} (h : AllStand N parent dis
   dist_still v n = get_or-set_other dist u v N.mark N.mark n
 
   key_still : (v : ℕ) → v ≢ u → key_at keys' v ≡ key_at keys v
-  key_still v n = rw r.is_set (get_or-set_other keys u v empty empty n)
+  key_still v n = rw r (get_or-set_other keys u v empty empty n)
 
   key_gone : key_at keys' u ≡ empty
-  key_gone = rw r.is_set (get_or-set_same keys u empty empty (omega (arith, h.lined.queue.keys_long, w.is_node)))
+  key_gone = rw r (get_or-set_same keys u empty empty (omega (arith, h.lined.keys_long, w.is_node)))
 
-  lined_lift : Lined N.mark (set dist u N.mark) keys' mins'
+  lined_lift : Lined N.mark (set dist u N.mark) keys'
   lined_lift =
       record {
         mark_fits = h.lined.mark_fits;
-        queue = r.queue;
         long = length-set dist u N.mark ∙ h.lined.long;
+        keys_long = rw (r, length-set) h.lined.keys_long;
         most = λ v. most v (ℕ_discrete v u);
         keyed = λ v. keyed v (ℕ_discrete v u);
       }
@@ -68,7 +62,7 @@ module _ {N : Net} {parent dist keys mins : List ℕ} (h : AllStand N parent dis
       record { usable = c.usable; ends_at = c.ends_at; reached = rw (dist_still (N.start k) m) c.reached; enough = rw (dist_still (N.start k) m, dist_still v n) c.enough }
 
   -- only the nodes that hang on u may stand no more
-  pub lift_stands : StandBut N parent u (set dist u N.mark) keys' mins'
+  pub lift_stands : StandBut N parent u (set dist u N.mark) keys'
   lift_stands =
       record {
         lined = lined_lift;
@@ -100,23 +94,9 @@ module _ {N : Net} {parent dist keys mins : List ℕ} (h : AllStand N parent dis
       still v p (yes e) = lt→ltb (dist_at N dist v) N.mark (rw e w.near)
       still v p (no n) = rw (dist_still v n) at p
 
--- one node more is lifted
-pub fates_more : {N : Net} {old dist first : List ℕ} {u : ℕ} → Fates N old dist first → length dist ≡ most_nodes → u < most_nodes
-    → Fates N old (set dist u N.mark) (set first u N.none)
-fates_more {N} {old} {dist} {first} {u} f long node = record { long = length-set first u N.none ∙ f.long; each = λ v. at v (ℕ_discrete v u) (f.each v) }
-  where
-    other : (v : ℕ) → v ≢ u → get_or (set first u N.none) v N.none ≡ get_or first v N.none
-    other v n = get_or-set_other first u v N.none N.none n
-
-    at : (v : ℕ) → Dec (v ≡ u) → Fate N old dist first v → Fate N old (set dist u N.mark) (set first u N.none) v
-    at v (yes e) d =
-        rw e (goes (get_or-set_same dist u N.mark N.mark (omega arith)) (get_or-set_same first u N.none N.none (omega (arith, f.long))))
-    at v (no n) (stays d) = stays (get_or-set_other dist u v N.mark N.mark n ∙ d)
-    at v (no n) (goes d g) = goes (get_or-set_other dist u v N.mark N.mark n ∙ d) (other v n ∙ g)
-
 -- ---- no node waits
 
-module _ {N : Net} {parent dist keys mins : List ℕ} (h : AllStand N parent dist keys mins) (none : (v : ℕ) → key_at keys v ≡ empty) where
+module _ {N : Net} {parent dist keys : List ℕ} (h : AllStand N parent dist keys) (none : (v : ℕ) → key_at keys v ≡ empty) where
   abbrev Walked : ℕ → Type 0
   Walked v = dist_at N dist v < N.mark → Within N v (dist_at N dist v)
 
@@ -144,9 +124,8 @@ module _ {N : Net} {parent dist keys mins : List ℕ} (h : AllStand N parent dis
       at (loose.waits k) = absurd (k (none v))
       at (loose.carried c) = c
 
-  all_lifted : Lifted N parent dist keys mins
+  all_lifted : Lifted N parent dist keys
   all_lifted = record { begun = record { lined = h.lined; root_zero = h.root_zero; walks = walks }; carried = still; none_waits = none }
 
-pub lifted : {N : Net} {parent dist keys mins : List ℕ} {key : ℕ} → AllStand N parent dist keys mins → LeastKey mins key → key ≡ empty
-    → Lifted N parent dist keys mins
-lifted h least e = all_lifted h (none_waits h.lined least e)
+pub lifted : {N : Net} {parent dist keys : List ℕ} → AllStand N parent dist keys → NoneWaits keys → Lifted N parent dist keys
+lifted h none = all_lifted h (none_waits h.lined none)

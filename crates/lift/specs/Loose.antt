@@ -31,15 +31,15 @@ pub record Parents (N : Net) (parent : List ℕ) : Type 0 where
   pub ends_at : (v : ℕ) → parent_at N parent v ≢ N.none → N.end (parent_at N parent v) ≡ v
 
 -- each node that is sure stands; the root never waits
-pub record Loose (N : Net) (parent : List ℕ) (sure : ℕ → Type 0) (dist keys mins : List ℕ) : Type 0 where
-  pub lined : Lined N.mark dist keys mins
+pub record Loose (N : Net) (parent : List ℕ) (sure : ℕ → Type 0) (dist keys : List ℕ) : Type 0 where
+  pub lined : Lined N.mark dist keys
   pub root_zero : dist_at N dist N.root ≡ 0
   pub root_idle : key_at keys N.root ≡ empty
   pub standing : (v : ℕ) → sure v → Stands N parent dist keys v
 
 -- each node that stood still stands, and so does each that was asked; the root waits as before
-pub record Noted (N : Net) (parent dist keys : List ℕ) (asked : ℕ → Type 0) (keys' mins' : List ℕ) : Type 0 where
-  pub lined : Lined N.mark dist keys' mins'
+pub record Noted (N : Net) (parent dist keys : List ℕ) (asked : ℕ → Type 0) (keys' : List ℕ) : Type 0 where
+  pub lined : Lined N.mark dist keys'
   pub root_still : key_at keys' N.root ≡ key_at keys N.root
   pub still : (v : ℕ) → Stands N parent dist keys v → Stands N parent dist keys' v
   pub stands : (v : ℕ) → asked v → Stands N parent dist keys' v
@@ -56,26 +56,26 @@ pub record Hangs (N : Net) (parent : List ℕ) (u v : ℕ) : Type 0 where
   pub ends_at : N.end (parent_at N parent v) ≡ v
 
 -- every node stands
-abbrev pub AllStand : Net → List ℕ → List ℕ → List ℕ → List ℕ → Type 0
-AllStand N parent dist keys mins = Loose N parent (λ v. Unit {0}) dist keys mins
+abbrev pub AllStand : Net → List ℕ → List ℕ → List ℕ → Type 0
+AllStand N parent dist keys = Loose N parent (λ v. Unit {0}) dist keys
 
 -- every node stands but those that hang on u
-abbrev pub StandBut : Net → List ℕ → ℕ → List ℕ → List ℕ → List ℕ → Type 0
-StandBut N parent u dist keys mins = Loose N parent (λ v. Hangs N parent u v → ⊥) dist keys mins
+abbrev pub StandBut : Net → List ℕ → ℕ → List ℕ → List ℕ → Type 0
+StandBut N parent u dist keys = Loose N parent (λ v. Hangs N parent u v → ⊥) dist keys
 
 -- every node stands but those whose parent link a row from the i-th on touches
-abbrev pub StandApart : Net → List ℕ → List ℕ → ℕ → List ℕ → List ℕ → List ℕ → Type 0
-StandApart N parent rows i dist keys mins = Loose N parent (λ v. Untouched N rows i (parent_at N parent v)) dist keys mins
+abbrev pub StandApart : Net → List ℕ → List ℕ → ℕ → List ℕ → List ℕ → Type 0
+StandApart N parent rows i dist keys = Loose N parent (λ v. Untouched N rows i (parent_at N parent v)) dist keys
 
 -- before: any distances up to the mark, the root's 0, and nothing waits
-pub record Liftable (N : Net) (dist keys mins : List ℕ) : Type 0 where
-  pub lined : Lined N.mark dist keys mins
+pub record Liftable (N : Net) (dist keys : List ℕ) : Type 0 where
+  pub lined : Lined N.mark dist keys
   pub root_zero : dist_at N dist N.root ≡ 0
   pub none_waits : (v : ℕ) → key_at keys v ≡ empty
 
 -- after: no distance is too small, nothing waits, and each reached node but the root is carried
-pub record Lifted (N : Net) (parent dist keys mins : List ℕ) : Type 0 where
-  pub begun : Seeded N dist keys mins
+pub record Lifted (N : Net) (parent dist keys : List ℕ) : Type 0 where
+  pub begun : Seeded N dist keys
   pub carried : (v : ℕ) → dist_at N dist v < N.mark → v ≢ N.root → Carries N dist (parent_at N parent v) v
   pub none_waits : (v : ℕ) → key_at keys v ≡ empty
 

@@ -3,69 +3,40 @@
 #![tactic(auto)]
 
 ghost use Rattle.std.specs.Prelude.{◌≡◌, ◌≢◌, ◌<◌, length, get_or};
-ghost use Rattle.rules.specs.Columns.{Proper, most_nodes, no_link};
-ghost use Rattle.usable.specs.Standing.{table_at, net_at};
-ghost use Rattle.heads.specs.Heads.{Head, Heads};
+ghost use Rattle.rules.specs.Columns.{most_nodes, no_link};
+ghost use Rattle.usable.specs.Standing.{net_at};
+ghost use Rattle.heads.specs.Heads.{HeadIn};
 ghost use Rattle.basics.specs.Tells.{Tells};
 ghost use Rattle.offer.specs.Offer.{Lined};
 ghost use Rattle.afoot.specs.Afoot.{Back, Naming};
 ghost use Rattle.lift.specs.Loose.{Rooted, Parents, Leaves, Noted, AllStand, StandBut, StandApart, Liftable, Lifted, Fates, LiftedRows};
 
-use rules::{NO_LINK, Profile};
+use offer::Search;
+use queue::Queue;
+use rules::NO_LINK;
+use usable::Net;
 
 // Node v, which isn't the root, waits if it is reached and its parent link doesn't carry it.
-fn note_if_loose(
-    profile: Profile,
-    nodes: usize,
-    root: usize,
-    starts: &[u16],
-    ends: &[u16],
-    narrow: &[u16],
-    wide: &[u32],
-    at: &[u16; 256],
-    v: usize,
-    parent: &[u16; 256],
-    dist: &[u32; 256],
-    keys: &mut [u64; 256],
-    mins: &mut [u64; 72],
-)
-    requires { Proper (table_at nodes root starts.now ends.now narrow.now wide.now) × Heads starts.now at.now × Rooted (net_at profile nodes root starts.now ends.now narrow.now wide.now) parent.now × Lined profile.mark dist.now keys.old mins.old × (v < most_nodes) × (v ≢ root) }
-    ensures { Noted (net_at profile nodes root starts.now ends.now narrow.now wide.now) parent.now dist.now keys.old (λ u. u ≡ v) keys.new mins.new }
+fn note_if_loose(net: &Net, v: usize, parent: &[u16; 256], dist: &[u32; 256], queue: &mut Queue)
+    requires lined { Lined net.now.table.profile.mark dist.now queue.old }
+    requires node { v < most_nodes }
+    requires not_root { v ≢ net.now.table.root }
+    ensures { Noted (net_at net.now.table) parent.now dist.now queue.old (λ u. u ≡ v) queue.new }
 {
-    if !carries::carries(
-        profile, nodes, root, starts, ends, narrow, wide, at, parent[v], v, dist,
-    ) {
-        carries::note(profile.mark, v, dist, keys, mins);
+    if !carries::carries(net, parent[v], v, dist) {
+        carries::note(net.table.profile.mark, v, dist, queue);
     }
 }
 
 // Each reached node but the root that its parent link doesn't carry waits.
-fn note_loose(
-    profile: Profile,
-    nodes: usize,
-    root: usize,
-    starts: &[u16],
-    ends: &[u16],
-    narrow: &[u16],
-    wide: &[u32],
-    at: &[u16; 256],
-    parent: &[u16; 256],
-    dist: &[u32; 256],
-    keys: &mut [u64; 256],
-    mins: &mut [u64; 72],
-)
-    requires { Proper (table_at nodes root starts.now ends.now narrow.now wide.now) × Heads starts.now at.now × Rooted (net_at profile nodes root starts.now ends.now narrow.now wide.now) parent.now × Liftable (net_at profile nodes root starts.now ends.now narrow.now wide.now) dist.now keys.old mins.old }
-    ensures { AllStand (net_at profile nodes root starts.now ends.now narrow.now wide.now) parent.now dist.now keys.new mins.new }
+fn note_loose(net: &Net, parent: &[u16; 256], dist: &[u32; 256], queue: &mut Queue)
+    requires { Liftable (net_at net.now.table) dist.now queue.old }
+    ensures { AllStand (net_at net.now.table) parent.now dist.now queue.new }
 {
-    let mut v: usize = 0;
-    while v < 256 {
-        let next = v + 1;
-        if v != root {
-            note_if_loose(
-                profile, nodes, root, starts, ends, narrow, wide, at, v, parent, dist, keys, mins,
-            );
+    for v in 0..256 {
+        if v != net.table.root {
+            note_if_loose(net, v, parent, dist, queue);
         }
-        v = next;
     }
 }
 
@@ -74,226 +45,128 @@ fn leaves(starts: &[u16], link: u16, u: u16) -> bool
     ensures { Tells (Leaves starts.now link u) result }
 {
     let k = link as usize;
-    if starts.len() <= k {
-        return false;
-    }
-    if starts[k] != u {
-        return false;
-    }
-    true
+    k < starts.len() && starts[k] == u
 }
 
 // A link's cost has changed: the node that hangs by it is asked.
-fn note_end(
-    profile: Profile,
-    nodes: usize,
-    root: usize,
-    starts: &[u16],
-    ends: &[u16],
-    narrow: &[u16],
-    wide: &[u32],
-    at: &[u16; 256],
-    link: u16,
-    parent: &[u16; 256],
-    dist: &[u32; 256],
-    keys: &mut [u64; 256],
-    mins: &mut [u64; 72],
-)
-    requires { Proper (table_at nodes root starts.now ends.now narrow.now wide.now) × Heads starts.now at.now × Parents (net_at profile nodes root starts.now ends.now narrow.now wide.now) parent.now × Lined profile.mark dist.now keys.old mins.old × (link < length starts.now) }
-    ensures { Noted (net_at profile nodes root starts.now ends.now narrow.now wide.now) parent.now dist.now keys.old (λ u. link ≡ get_or parent.now u no_link) keys.new mins.new }
+fn note_end(net: &Net, link: u16, parent: &[u16; 256], dist: &[u32; 256], queue: &mut Queue)
+    requires parents { Parents (net_at net.now.table) parent.now }
+    requires lined { Lined net.now.table.profile.mark dist.now queue.old }
+    requires link { link < length net.now.table.starts.now }
+    ensures { Noted (net_at net.now.table) parent.now dist.now queue.old (λ u. link ≡ get_or parent.now u no_link) queue.new }
 {
-    let end = ends[link as usize] as usize;
+    let end = net.table.end(link as usize);
     if parent[end] == link {
-        note_if_loose(
-            profile, nodes, root, starts, ends, narrow, wide, at, end, parent, dist, keys, mins,
-        );
+        note_if_loose(net, end, parent, dist, queue);
     }
 }
 
 // And so is the node that hangs by a link back over it, which is its start: that link may have lost its last link back.
-fn note_start(
-    profile: Profile,
-    nodes: usize,
-    root: usize,
-    starts: &[u16],
-    ends: &[u16],
-    narrow: &[u16],
-    wide: &[u32],
-    at: &[u16; 256],
-    link: u16,
-    parent: &[u16; 256],
-    dist: &[u32; 256],
-    keys: &mut [u64; 256],
-    mins: &mut [u64; 72],
-)
-    requires { Proper (table_at nodes root starts.now ends.now narrow.now wide.now) × Heads starts.now at.now × Parents (net_at profile nodes root starts.now ends.now narrow.now wide.now) parent.now × Lined profile.mark dist.now keys.old mins.old × (link < length starts.now) }
-    ensures { Noted (net_at profile nodes root starts.now ends.now narrow.now wide.now) parent.now dist.now keys.old (λ u. Back (net_at profile nodes root starts.now ends.now narrow.now wide.now) link (get_or parent.now u no_link)) keys.new mins.new }
+fn note_start(net: &Net, link: u16, parent: &[u16; 256], dist: &[u32; 256], queue: &mut Queue)
+    requires parents { Parents (net_at net.now.table) parent.now }
+    requires lined { Lined net.now.table.profile.mark dist.now queue.old }
+    requires link { link < length net.now.table.starts.now }
+    ensures { Noted (net_at net.now.table) parent.now dist.now queue.old (λ u. Back (net_at net.now.table) link (get_or parent.now u no_link)) queue.new }
 {
+    let table = &net.table;
     let k = link as usize;
-    let start = starts[k] as usize;
-    if leaves(starts, parent[start], ends[k]) {
-        note_if_loose(
-            profile, nodes, root, starts, ends, narrow, wide, at, start, parent, dist, keys, mins,
-        );
+    let start = table.start(k);
+    if leaves(table.starts, parent[start], table.ends[k]) {
+        note_if_loose(net, start, parent, dist, queue);
     }
 }
 
 // Each reached node waits whose parent link a row touches and that it carries no longer. Of the others nothing is asked.
-fn note_rows(
-    profile: Profile,
-    nodes: usize,
-    root: usize,
-    starts: &[u16],
-    ends: &[u16],
-    narrow: &[u16],
-    wide: &[u32],
-    changed: &[u16],
-    at: &[u16; 256],
-    parent: &[u16; 256],
-    dist: &[u32; 256],
-    keys: &mut [u64; 256],
-    mins: &mut [u64; 72],
-)
-    requires { Proper (table_at nodes root starts.now ends.now narrow.now wide.now) × Heads starts.now at.now × Parents (net_at profile nodes root starts.now ends.now narrow.now wide.now) parent.now × Naming (length starts.now) changed.now × StandApart (net_at profile nodes root starts.now ends.now narrow.now wide.now) parent.now changed.now 0 dist.now keys.old mins.old }
-    ensures { AllStand (net_at profile nodes root starts.now ends.now narrow.now wide.now) parent.now dist.now keys.new mins.new }
+fn note_rows(net: &Net, changed: &[u16], parent: &[u16; 256], dist: &[u32; 256], queue: &mut Queue)
+    requires parents { Parents (net_at net.now.table) parent.now }
+    requires naming { Naming (length net.now.table.starts.now) changed.now }
+    requires stand { StandApart (net_at net.now.table) parent.now changed.now 0 dist.now queue.old }
+    ensures { AllStand (net_at net.now.table) parent.now dist.now queue.new }
 {
-    let mut i: usize = 0;
-    while i < changed.len() {
-        let next = i + 1;
-        let link = changed[i];
-        note_end(
-            profile, nodes, root, starts, ends, narrow, wide, at, link, parent, dist, keys, mins,
-        );
-        note_start(
-            profile, nodes, root, starts, ends, narrow, wide, at, link, parent, dist, keys, mins,
-        );
-        i = next;
+    for link in changed {
+        note_end(net, *link, parent, dist, queue);
+        note_start(net, *link, parent, dist, queue);
     }
 }
 
 // Node u went to unreached: each reached node that hangs on it waits. Links that leave one node follow each other.
 fn note_hung_on(
-    profile: Profile,
-    nodes: usize,
-    root: usize,
-    starts: &[u16],
-    ends: &[u16],
-    narrow: &[u16],
-    wide: &[u32],
+    net: &Net,
     u: usize,
     first: u16,
     parent: &[u16; 256],
     dist: &[u32; 256],
-    keys: &mut [u64; 256],
-    mins: &mut [u64; 72],
+    queue: &mut Queue,
 )
-    requires { Proper (table_at nodes root starts.now ends.now narrow.now wide.now) × Rooted (net_at profile nodes root starts.now ends.now narrow.now wide.now) parent.now × Head (length starts.now) (λ k. get_or starts.now k 0) u first × StandBut (net_at profile nodes root starts.now ends.now narrow.now wide.now) parent.now u dist.now keys.old mins.old }
-    ensures { AllStand (net_at profile nodes root starts.now ends.now narrow.now wide.now) parent.now dist.now keys.new mins.new }
+    requires rooted { Rooted (net_at net.now.table) parent.now }
+    requires first { HeadIn net.now.table.starts.now u first }
+    requires stand { StandBut (net_at net.now.table) parent.now u dist.now queue.old }
+    ensures { AllStand (net_at net.now.table) parent.now dist.now queue.new }
 {
-    let mut k = first as usize;
-    while k < starts.len() {
-        if starts[k] as usize != u {
+    let table = &net.table;
+    for k in first as usize..table.starts.len() {
+        if table.start(k) != u {
             return;
         }
-        let next = k + 1;
-        let end = ends[k] as usize;
-        if parent[end] == k as u16 {
-            carries::note(profile.mark, end, dist, keys, mins);
+        let end = table.end(k);
+        let link = parent[end];
+        if link == k as u16 {
+            carries::note(table.profile.mark, end, dist, queue);
         }
-        k = next;
     }
 }
 
 // Until no node waits: the waiting node of least distance goes to unreached, and loses its first link. By that a lifted
 // node is known.
-fn lift_noted(
-    profile: Profile,
-    nodes: usize,
-    root: usize,
-    starts: &[u16],
-    ends: &[u16],
-    narrow: &[u16],
-    wide: &[u32],
-    at: &[u16; 256],
-    parent: &[u16; 256],
-    dist: &mut [u32; 256],
-    first: &mut [u16; 256],
-    keys: &mut [u64; 256],
-    mins: &mut [u64; 72],
-)
-    requires { Proper (table_at nodes root starts.now ends.now narrow.now wide.now) × Heads starts.now at.now × Rooted (net_at profile nodes root starts.now ends.now narrow.now wide.now) parent.now × AllStand (net_at profile nodes root starts.now ends.now narrow.now wide.now) parent.now dist.old keys.old mins.old × (length first.old ≡ most_nodes) }
-    ensures { Lifted (net_at profile nodes root starts.now ends.now narrow.now wide.now) parent.now dist.new keys.new mins.new × Fates (net_at profile nodes root starts.now ends.now narrow.now wide.now) dist.old dist.new first.new }
+fn lift_noted(net: &Net, parent: &[u16; 256], search: &mut Search, first: &mut [u16; 256])
+    requires rooted { Rooted (net_at net.now.table) parent.now }
+    requires stand { AllStand (net_at net.now.table) parent.now search.old.dist search.old.queue }
+    ensures lifted { Lifted (net_at net.now.table) parent.now search.new.dist search.new.queue }
+    ensures fates { Fates (net_at net.now.table) search.old.dist search.new.dist first.new }
+    ensures found { search.new.found ≡ search.old.found }
+    ensures asked { search.new.asked ≡ search.old.asked }
 {
-    let mut key = queue::least(mins);
-    while key != queue::EMPTY {
-        let u = (key % 256) as usize;
-        queue::take(keys, mins, u);
-        dist[u] = profile.mark;
+    while let Some(u) = search.queue.pop() {
+        search.dist[u] = net.table.profile.mark;
         first[u] = NO_LINK;
-        note_hung_on(
-            profile, nodes, root, starts, ends, narrow, wide, u, at[u], parent, dist, keys, mins,
-        );
-        key = queue::least(mins);
+        note_hung_on(net, u, net.at[u], parent, &search.dist, &mut search.queue);
     }
 }
 
 // Every node's parent link is asked. What is left has a walk at most as long as its distance, over these costs and
 // whatever links the parents are.
-pub fn lift(
-    profile: Profile,
-    nodes: usize,
-    root: usize,
-    starts: &[u16],
-    ends: &[u16],
-    narrow: &[u16],
-    wide: &[u32],
-    at: &[u16; 256],
-    parent: &[u16; 256],
-    dist: &mut [u32; 256],
-    first: &mut [u16; 256],
-    keys: &mut [u64; 256],
-    mins: &mut [u64; 72],
-)
-    requires { Proper (table_at nodes root starts.now ends.now narrow.now wide.now) × Heads starts.now at.now × Rooted (net_at profile nodes root starts.now ends.now narrow.now wide.now) parent.now × Liftable (net_at profile nodes root starts.now ends.now narrow.now wide.now) dist.old keys.old mins.old × (length first.old ≡ most_nodes) }
-    ensures { Lifted (net_at profile nodes root starts.now ends.now narrow.now wide.now) parent.now dist.new keys.new mins.new }
+pub fn lift(net: &Net, parent: &[u16; 256], search: &mut Search, first: &mut [u16; 256])
+    requires rooted { Rooted (net_at net.now.table) parent.now }
+    requires liftable { Liftable (net_at net.now.table) search.old.dist search.old.queue }
+    ensures lifted { Lifted (net_at net.now.table) parent.now search.new.dist search.new.queue }
+    ensures found { search.new.found ≡ search.old.found }
+    ensures asked { search.new.asked ≡ search.old.asked }
 {
-    note_loose(
-        profile, nodes, root, starts, ends, narrow, wide, at, parent, dist, keys, mins,
-    );
-    lift_noted(
-        profile, nodes, root, starts, ends, narrow, wide, at, parent, dist, first, keys, mins,
-    );
+    note_loose(net, parent, &search.dist, &mut search.queue);
+    lift_noted(net, parent, search, first);
 }
 
 // The same where only the parent links that the rows touch are asked, since every other carries its node. Tells whether a
 // node was lifted.
 pub fn lift_rows(
-    profile: Profile,
-    nodes: usize,
-    root: usize,
-    starts: &[u16],
-    ends: &[u16],
-    narrow: &[u16],
-    wide: &[u32],
+    net: &Net,
     changed: &[u16],
-    at: &[u16; 256],
     parent: &[u16; 256],
-    dist: &mut [u32; 256],
+    search: &mut Search,
     first: &mut [u16; 256],
-    keys: &mut [u64; 256],
-    mins: &mut [u64; 72],
 ) -> bool
-    requires { Proper (table_at nodes root starts.now ends.now narrow.now wide.now) × Heads starts.now at.now × Parents (net_at profile nodes root starts.now ends.now narrow.now wide.now) parent.now × Naming (length starts.now) changed.now × StandApart (net_at profile nodes root starts.now ends.now narrow.now wide.now) parent.now changed.now 0 dist.old keys.old mins.old × (length first.old ≡ most_nodes) }
-    ensures { Lifted (net_at profile nodes root starts.now ends.now narrow.now wide.now) parent.now dist.new keys.new mins.new × LiftedRows (net_at profile nodes root starts.now ends.now narrow.now wide.now) dist.old first.old dist.new first.new result }
+    requires parents { Parents (net_at net.now.table) parent.now }
+    requires naming { Naming (length net.now.table.starts.now) changed.now }
+    requires stand { StandApart (net_at net.now.table) parent.now changed.now 0 search.old.dist search.old.queue }
+    ensures lifted { Lifted (net_at net.now.table) parent.now search.new.dist search.new.queue }
+    ensures rows { LiftedRows (net_at net.now.table) search.old.dist first.old search.new.dist first.new result }
+    ensures found { search.new.found ≡ search.old.found }
+    ensures asked { search.new.asked ≡ search.old.asked }
 {
-    note_rows(
-        profile, nodes, root, starts, ends, narrow, wide, changed, at, parent, dist, keys, mins,
-    );
-    if queue::least(mins) == queue::EMPTY {
+    note_rows(net, changed, parent, &search.dist, &mut search.queue);
+    if search.queue.is_empty() {
         return false;
     }
-    lift_noted(
-        profile, nodes, root, starts, ends, narrow, wide, at, parent, dist, first, keys, mins,
-    );
+    lift_noted(net, parent, search, first);
     true
 }

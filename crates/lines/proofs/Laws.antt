@@ -2,20 +2,20 @@
 use mathlib.Core.Path.{◌≡◌, refl, sym, ap, ◌∙◌}
 use mathlib.Core.Bool.{Bool, true, false, cond}
 use mathlib.Core.List.{List, [], ◌∷◌, ◌++◌, append_assoc, map}
-use Prim.Native.Nat.{ℕ, zero, suc, ◌+◌, ◌-◌, ◌*◌, ◌^◌, ◌≤◌, ◌<◌, ◌/◌, ◌%◌}
+use Prim.Native.Nat.{ℕ, zero, suc, ◌+◌, ◌*◌, ◌^◌, ◌≤◌, ◌<◌, ◌/◌, ◌%◌}
 use native.Mathlib.Omega.{arith}
-use native.Mathlib.Decide.{dec_lt, dec_le}
+use Rattle.std.proofs.Common.{Fits, w16, w32, w64}
+use native.Mathlib.Decide.{dec_lt}
 use native.Mathlib.Nat.{pow-suc}
 use native.Mathlib.Numerals.{add-one}
-use borrow.Author.Tests.{le-leb, lt-leb}
-use lib.Dec.{eqb, leb}
-use lib.ListN.{length, take, drop, get_or, length-append}
+use lib.Dec.{eqb}
+use lib.ListN.{length, drop, get_or, length-append}
 use lib.Seq.{drop-cons}
 use Rattle.rules.specs.Columns.{no_link}
 use Rattle.words.specs.Words.{decimal, digit, dash, space, link_text}
 use Rattle.words.specs.Putting.{Room, Put}
-use Rattle.words.proofs.Laws.{put_none, put_then, room_rest, room_front, one_digit, more_digits}
-use Rattle.lines.specs.Lines.{newline, ending, row_line, changed_line, refusal_line, again_line, line_room}
+use Rattle.words.proofs.Laws.{put_none, put_then, one_digit, more_digits}
+use Rattle.lines.specs.Lines.{newline, ending, row_line, nodes_line, refusal_line, again_line, line_room}
 
 -- ---- how long a line can be
 
@@ -43,56 +43,55 @@ twenty : (n : ℕ) → n < 2 ^ 64 → length (decimal n) ≤ 20
 twenty n l = few_digits 19 n (omega arith)
 
 module _ {text : List ℕ} {at : ℕ} (room : at + line_room ≤ length text) where
-  pub row_room : (node dist parent first : ℕ) → node < 65536 → dist < 2 ^ 32 → parent < 65536 → first < 65536
+  pub row_room : {node dist parent first : ℕ} → Fits w16 node → Fits w32 dist → Fits w16 parent → Fits w16 first
       → Room text at (row_line node dist parent first)
-  row_room node dist parent first n d p f = record {
+  row_room {node} {dist} {parent} {first} n d p f = record {
     fits = omega (
       arith,
       length-append (decimal node) (ending (decimal dist ∷ link_text parent ∷ link_text first ∷ [])),
       length-append (decimal dist) (ending (link_text parent ∷ link_text first ∷ [])),
       length-append (link_text parent) (ending (link_text first ∷ [])),
       length-append (link_text first) (ending []),
-      five node n,
-      twenty dist (omega arith),
-      five_link parent p,
-      five_link first f,
+      five node (omega (arith, n.fits)),
+      twenty dist (omega (arith, d.fits)),
+      five_link parent (omega (arith, p.fits)),
+      five_link first (omega (arith, f.fits)),
     );
   }
 
-  pub refusal_room : (number place : ℕ) → number < 65536 → place < 2 ^ 64 → Room text at (refusal_line number place)
-  refusal_room number place n p = record {
+  pub refusal_room : {number place : ℕ} → Fits w16 number → Fits w64 place → Room text at (refusal_line number place)
+  refusal_room {number} {place} n p = record {
     fits = omega (
       arith,
       length-append (decimal number) (ending (decimal place ∷ [])),
       length-append (decimal place) (ending []),
-      five number n,
-      twenty place p,
+      five number (omega (arith, n.fits)),
+      twenty place (omega (arith, p.fits)),
     );
   }
 
-  pub again_room : (place earlier : ℕ) → place < 2 ^ 64 → earlier < 2 ^ 64 → Room text at (again_line place earlier)
-  again_room place earlier p e = record {
+  pub again_room : {place earlier : ℕ} → Fits w64 place → Fits w64 earlier → Room text at (again_line place earlier)
+  again_room {place} {earlier} p e = record {
     fits = omega (
       arith,
       length-append (decimal 9) (ending (decimal place ∷ decimal earlier ∷ [])),
       length-append (decimal place) (ending (decimal earlier ∷ [])),
       length-append (decimal earlier) (ending []),
       five 9 (omega arith),
-      twenty place p,
-      twenty earlier e,
+      twenty place (omega (arith, p.fits)),
+      twenty earlier (omega (arith, e.fits)),
     );
   }
 
-entries_short : (n : ℕ) (list : List ℕ) → ((i : ℕ) → get_or list i 0 < 65536) → length (ending (map decimal (take n list))) ≤ n * 6 + 1
-entries_short zero list narrow = omega arith
-entries_short (suc n) [] narrow = omega arith
-entries_short (suc n) (entry ∷ list) narrow =
-    omega (arith, length-append (decimal entry) (ending (map decimal (take n list))), five entry (narrow 0), entries_short n list (λ i. narrow (suc i)))
+entries_short : (nodes : List ℕ) → ((i : ℕ) → get_or nodes i 0 < 65536) → length (ending (map decimal nodes)) ≤ length nodes * 6 + 1
+entries_short [] narrow = omega arith
+entries_short (node ∷ nodes) narrow =
+    omega (arith, length-append (decimal node) (ending (map decimal nodes)), five node (narrow 0), entries_short nodes (λ i. narrow (suc i)))
 
-pub changed_room : {text : List ℕ} {at : ℕ} → at + line_room ≤ length text → (count : ℕ) (list : List ℕ) → count ≤ 256
-    → ((i : ℕ) → get_or list i 0 < 65536) → Room text at (changed_line count list)
-changed_room room count list few narrow = record {
-  fits = omega (arith, length-append (decimal count) (ending (map decimal (take count list))), five count (omega arith), entries_short count list narrow);
+pub nodes_room : {text : List ℕ} {at : ℕ} → at + line_room ≤ length text → (nodes : List ℕ) → length nodes ≤ 256
+    → ((i : ℕ) → get_or nodes i 0 < 65536) → Room text at (nodes_line nodes)
+nodes_room room nodes few narrow = record {
+  fits = omega (arith, length-append (decimal (length nodes)) (ending (map decimal nodes)), five (length nodes) (omega arith), entries_short nodes narrow);
 }
 
 -- ---- the entries of a list, one after another
@@ -106,18 +105,10 @@ pub record Listing (entries before : List ℕ) (at : ℕ) (after : List ℕ) (en
 pub listing_none : {entries text : List ℕ} {at : ℕ} → at ≤ length text → Listing entries text at text at 0
 listing_none {text = text} {at = at} l = record { done = []; put = put_none text at l; left = refl }
 
-module _ {entries before : List ℕ} {at : ℕ} {after : List ℕ} {end i : ℕ} (l : Listing entries before at after end i)
-    (room : Room before at (ending (map decimal entries))) where
-  -- what is left of the line from entry i on
-  pub listing_left : Room after end (ending (map decimal (drop i entries)))
-  listing_left = room_rest l.put (ending (map decimal (drop i entries))) (rw l.left room)
-
+module _ {entries before : List ℕ} {at : ℕ} {after : List ℕ} {end i : ℕ} (l : Listing entries before at after end i) where
   module _ {entry : ℕ} (inside : i < length entries) (is : get_or entries i 0 ≡ entry) where
     here : ending (map decimal (drop i entries)) ≡ (space ∷ decimal entry) ++ ending (map decimal (drop (i + 1) entries))
     here = ap (λ (rest : List ℕ). ending (map decimal rest)) (drop-cons entries i 0 inside) ∙ rw (is, add-one i) refl
-
-    pub listing_room : Room after end (space ∷ decimal entry)
-    listing_room = room_front (ending (map decimal (drop (i + 1) entries))) (rw here at listing_left)
 
     pub listing_more : {next : List ℕ} {behind : ℕ} → Put after end (space ∷ decimal entry) next behind → Listing entries before at next behind (i + 1)
     listing_more q = record {
@@ -137,18 +128,6 @@ module _ {entries before : List ℕ} {at : ℕ} {after : List ℕ} {end i : ℕ}
         none (x ∷ l) zero e = absurd (omega arith)
         none (x ∷ l) (suc i) e = none l i (omega arith)
 
-    pub listing_end_room : Room after end (newline ∷ [])
-    listing_end_room = rw over at listing_left
-
     pub listing_end : {next : List ℕ} {behind : ℕ} → Put after end (newline ∷ []) next behind → Put before at (ending (map decimal entries)) next behind
     listing_end {next} {behind} q =
         rw (ap (λ (rest : List ℕ). l.done ++ rest) (sym over) ∙ l.left) at (put_then l.put q)
-
--- ---- room for any line
-
-pub room_test : (bytes at : ℕ) → at ≤ bytes → leb line_room (bytes - at) ≡ leb (at + line_room) bytes
-room_test bytes at l = by (dec_le (at + line_room) bytes)
-  where
-    by : Dec (at + line_room ≤ bytes) → leb line_room (bytes - at) ≡ leb (at + line_room) bytes
-    by (yes fits) = le-leb line_room (bytes - at) (omega arith) ∙ sym (le-leb (at + line_room) bytes fits)
-    by (no full) = lt-leb line_room (bytes - at) (omega arith) ∙ sym (lt-leb (at + line_room) bytes (omega arith))

@@ -1,5 +1,5 @@
 -- What a record tells, as a line of text, as the scope says it: one space between words. Assumes nothing.
-use Rattle.std.specs.Prelude.{ℕ, cond, List, [], ◌∷◌, ◌++◌, map, eqb, take}
+use Rattle.std.specs.Prelude.{ℕ, cond, List, [], ◌∷◌, ◌++◌, map, eqb, length, take}
 use Rattle.words.specs.Words.{space, decimal, link_text}
 use Rattle.state.specs.declared.Out.{Out}
 use Rattle.state.specs.declared.Out.TheVariants.{Nothing, Row, Changed, Refused}
@@ -25,6 +25,9 @@ ending (word ∷ words) = space ∷ (word ++ ending words)
 abbrev pub row_line : ℕ → ℕ → ℕ → ℕ → List ℕ
 row_line node dist parent first =
     letter_n ∷ ending (decimal node ∷ decimal dist ∷ link_text parent ∷ link_text first ∷ [])
+
+abbrev pub nodes_line : List ℕ → List ℕ
+nodes_line nodes = letter_a ∷ ending (decimal (length nodes) ∷ map decimal nodes)
 
 -- the changed nodes are the list's first entries
 abbrev pub changed_line : ℕ → List ℕ → List ℕ

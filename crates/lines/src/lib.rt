@@ -2,7 +2,7 @@
 #![tactic(auto)]
 
 ghost use Rattle.std.specs.Prelude.{◌≡◌, ◌+◌, ◌≤◌, leb, length};
-ghost use Rattle.lines.specs.Lines.{row_line, changed_line, refusal_line, again_line, line_of, entries_in, line_room};
+ghost use Rattle.lines.specs.Lines.{row_line, nodes_line, refusal_line, again_line, line_of, entries_in, line_room};
 ghost use Rattle.words.specs.Putting.{Put};
 
 use state::Out;
@@ -32,16 +32,15 @@ fn put_row(text: &mut [u8], at: usize, node: u16, dist: u32, parent: u16, first:
 }
 
 // APPLY: `A count`, then the changed nodes.
-fn put_changed(text: &mut [u8], at: usize, list: &[u16], count: usize) -> usize
-    requires { (at + line_room ≤ length text.old) × (count ≤ 256) × (count ≤ length list.now) }
-    ensures { Put text.old at (changed_line count list.now) text.new result }
+fn put_changed(text: &mut [u8], at: usize, nodes: &[u16]) -> usize
+    requires room { at + line_room ≤ length text.old }
+    requires few { length nodes.now ≤ 256 }
+    ensures { Put text.old at (nodes_line nodes.now) text.new result }
 {
     let letter = words::put_byte(text, at, b'A');
-    let mut end = words::put_word(text, letter, count as u64);
-    let mut i: usize = 0;
-    while i < count {
-        end = words::put_word(text, end, list[i] as u64);
-        i += 1;
+    let mut end = words::put_word(text, letter, nodes.len() as u64);
+    for node in nodes {
+        end = words::put_word(text, end, *node as u64);
     }
     words::put_byte(text, end, b'\n')
 }
@@ -78,7 +77,9 @@ pub fn put_line(
     place: usize,
     earlier: usize,
 ) -> usize
-    requires { (at + line_room ≤ length text.old) × (entries_in out ≤ 256) × (entries_in out ≤ length list.now) }
+    requires room { at + line_room ≤ length text.old }
+    requires few { entries_in out ≤ 256 }
+    requires listed { entries_in out ≤ length list.now }
     ensures { Put text.old at (line_of out list.now place earlier) text.new result }
 {
     match out {
@@ -89,13 +90,8 @@ pub fn put_line(
             parent,
             first,
         } => put_row(text, at, node, dist, parent, first),
-        Out::Changed { count } => put_changed(text, at, list, count),
-        Out::Refused { number } => {
-            if number == 9 {
-                put_again(text, at, place, earlier)
-            } else {
-                put_refusal(text, at, number, place)
-            }
-        }
+        Out::Changed { count } => put_changed(text, at, &list[..count]),
+        Out::Refused { number: 9 } => put_again(text, at, place, earlier),
+        Out::Refused { number } => put_refusal(text, at, number, place),
     }
 }

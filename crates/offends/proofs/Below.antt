@@ -1,15 +1,13 @@
 -- One comparison tells whether a link offers less: by what an offer has to stay below at its ends. Assumes nothing.
-use mathlib.Core.Path.{◌≡◌, ◌∙◌}
+use mathlib.Core.Path.{◌≡◌}
 use mathlib.Core.Logic.{◌≢◌}
 use mathlib.Core.Bool.{false, and-true, and-false, or-true}
 use mathlib.Core.List.{List}
-use Prim.Native.Nat.{ℕ, ◌+◌, ◌≤◌, ◌<◌}
+use Prim.Native.Nat.{ℕ, ◌+◌, ◌≤◌, ◌<◌, min}
 use native.Mathlib.Omega.{arith}
 use native.Mathlib.Decide.{ℕ_discrete, dec_lt}
 use lib.Dec.{ltb}
-use lib.ListN.{get_or, set, replicate, length-set, length-replicate}
-use lib.Seq.{get_or-set_same, get_or-set_other}
-use borrow.Author.Count.{below_more}
+use lib.ListN.{get_or}
 use borrow.Author.Tests.{eq-eqb, ne_eqb, lt-ltb, le-ltb}
 use Rattle.rules.specs.Columns.{most_nodes, no_ceiling}
 use Rattle.offends.specs.Offends.{bar, offers_less, Bars, Low}
@@ -26,6 +24,13 @@ module _ (mark ceiling : ℕ) where
   pub bar_own : (d : ℕ) → d ≢ mark → d < ceiling → bar mark ceiling d ≡ d
   unfolding bar
   bar_own d n l = rw (ne_eqb d mark n, lt-ltb d ceiling l)
+
+  pub bar_reached : (d : ℕ) → d ≢ mark → min d ceiling ≡ bar mark ceiling d
+  bar_reached d n = at (dec_lt d ceiling)
+    where
+      at : Dec (d < ceiling) → min d ceiling ≡ bar mark ceiling d
+      at (yes l) = omega (arith, bar_own d n l)
+      at (no l) = omega (arith, bar_beyond d n (omega arith))
 
   pub bar_low : (d : ℕ) → bar mark ceiling d ≤ ceiling
   bar_low d = at (ℕ_discrete d mark) (dec_lt d ceiling)
@@ -61,18 +66,6 @@ module _ (mark ceiling : ℕ) where
         at (no n) (no l) = rw (silent (bar_beyond from n (omega arith)), le-ltb (from + cost) ceiling (omega arith), and-false)
 
 module _ {mark ceiling : ℕ} {dist : List ℕ} where
-  pub no_bars : Bars mark ceiling dist 0 (replicate most_nodes 0)
-  no_bars = record { long = length-replicate {A = ℕ} most_nodes 0; each = λ v l. absurd (omega arith) }
-
-  pub one_bar_more : {n b : ℕ} {bars : List ℕ} → Bars mark ceiling dist n bars → n < most_nodes
-      → b ≡ bar mark ceiling (get_or dist n 0) → Bars mark ceiling dist (n + 1) (set bars n b)
-  one_bar_more {n} {b} {bars} h l e = record {
-    long = length-set bars n b ∙ h.long;
-    each = below_more (λ (v : ℕ). get_or (set bars n b) v 0 ≡ bar mark ceiling (get_or dist v 0)) n
-        (λ v m. get_or-set_other bars n v b 0 (omega arith) ∙ h.each v m)
-        (get_or-set_same bars n b 0 (omega (arith, h.long)) ∙ e);
-  }
-
   -- no bar is above the ceiling
   pub low : {bars : List ℕ} → Bars mark ceiling dist most_nodes bars → ceiling ≤ no_ceiling → Low bars
   low h few = record { long = h.long; low = λ v l. omega (arith, bar_low mark ceiling (get_or dist v 0), h.each v l) }

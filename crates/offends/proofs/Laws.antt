@@ -2,18 +2,20 @@
 use mathlib.Core.Path.{◌≡◌, refl, sym, ◌∙◌}
 use mathlib.Core.Bool.{Bool, true, false, ◌&&◌, and-false, true≢false}
 use mathlib.Core.List.{List}
-use Prim.Native.Nat.{ℕ, ◌+◌, ◌≤◌, ◌<◌}
+use Prim.Native.Nat.{ℕ, ◌+◌, ◌≤◌, ◌<◌, min}
 use native.Mathlib.Omega.{arith}
+use native.Mathlib.Decide.{dec_lt}
 use lib.Dec.{ltb}
 use lib.ListN.{length, get_or}
 use borrow.Author.Count.{below_more}
+use Rattle.std.specs.Prelude.{Option, None, Some, unwrap_or}
 use Rattle.rules.specs.Net.{Net}
 use Rattle.rules.specs.Tests.{usable}
 use Rattle.rules.specs.Columns.{Table, Proper, net_in, most_nodes}
 use Rattle.rules.specs.declared.Profile.{Profile}
 use Rattle.usable.proofs.Asked.{not_usable}
 use Rattle.usable.proofs.Reading.{start_has_row, end_has_row, read_row}
-use Rattle.offends.specs.Offends.{offers_less, offends, Bars, offers_by, offends_by, Calm, Offended, LeastOffended}
+use Rattle.offends.specs.Offends.{offers_less, offends, Bars, offers_by, offends_by, Calm, Offended, LeastOffended, LeastOffendedOf}
 use Rattle.offends.proofs.Below.{offers_by_bars}
 
 -- what is read of a link and of its ends decides
@@ -50,24 +52,7 @@ module _ (p : Profile) (t : Table) (bars : List ℕ) (k : ℕ) {b : Bool} where
   unfolding offers_by offends_by
   offends_not is level = rw (← is, level)
 
--- no link yet, and one more that is down or offers nothing less
-pub calm_none : (t : Table) (bars : List ℕ) → Calm t bars 0
-calm_none t bars = record { is_few = omega arith; none = λ k l. absurd (omega arith) }
-
-module _ {t : Table} {bars : List ℕ} {n : ℕ} (h : Calm t bars n) (is_link : n < length t.starts) where
-  calm_more : (ltb 0 (get_or t.costs n 0) && offers_by t bars n) ≡ false → Calm t bars (n + 1)
-  calm_more fails = record {
-    is_few = omega arith;
-    none = below_more (λ (k : ℕ). (ltb 0 (get_or t.costs k 0) && offers_by t bars k) ≡ false) n h.none fails;
-  }
-
-  pub calm_down : {b : Bool} → b ≡ ltb 0 (get_or t.costs n 0) → b ≡ false → Calm t bars (n + 1)
-  calm_down is down = calm_more (rw (← is, down))
-
-  pub calm_level : {b : Bool} → b ≡ offers_by t bars n → b ≡ false → Calm t bars (n + 1)
-  calm_level is level = calm_more (rw (← is, level, and-false))
-
--- such a link doesn't offend
+-- a link that is down or offers nothing less doesn't offend
 calm_not : (p : Profile) (t : Table) (bars : List ℕ) (k : ℕ) → (ltb 0 (get_or t.costs k 0) && offers_by t bars k) ≡ false
     → offends_by (net_in p t) bars k ≡ false
 unfolding offers_by offends_by
@@ -92,7 +77,7 @@ least_calm p {t} proper ds long {bars} h calm = record {
 }
 
 -- a link more that ends no sooner
-pub least_later : {N : Net} {dist : ℕ → ℕ} {n v : ℕ} → LeastOffended N dist n v
+least_later : {N : Net} {dist : ℕ → ℕ} {n v : ℕ} → LeastOffended N dist n v
     → (offends N dist n ≡ true → v ≤ N.end n) → LeastOffended N dist (n + 1) v
 least_later {N} {dist} {n} {v} h later = record {
   within = h.within;
@@ -100,19 +85,30 @@ least_later {N} {dist} {n} {v} h later = record {
   offended = λ l. offended_more (h.offended l);
 }
 
--- a link more that offers its end nothing less
-pub least_skip : {N : Net} {dist : ℕ → ℕ} {n v : ℕ} {a b : Bool} → LeastOffended N dist n v
-    → b ≡ a → a ≡ offends N dist n → b ≡ false → LeastOffended N dist (n + 1) v
-least_skip h tells is fails = least_later h (λ o. absurd (true≢false (cc)))
-
 -- a link more that offers its end less, and ends sooner
-pub least_take : {N : Net} {dist : ℕ → ℕ} {n v : ℕ} {a b : Bool} → LeastOffended N dist n v
-    → b ≡ a → a ≡ offends N dist n → b ≡ true → N.end n < v → LeastOffended N dist (n + 1) (N.end n)
-least_take {N} {dist} {n} {v} h tells is passes sooner = record {
+least_sooner : {N : Net} {dist : ℕ → ℕ} {n v : ℕ} → LeastOffended N dist n v
+    → offends N dist n ≡ true → N.end n < v → LeastOffended N dist (n + 1) (N.end n)
+least_sooner {N} {dist} {n} {v} h passes sooner = record {
   within = omega (arith, h.within);
   least =
       below_more (λ (k : ℕ). offends N dist k ≡ true → N.end n ≤ N.end k) n
       (λ k l o. omega (arith, h.least k l o))
       (λ o. omega arith);
-  offended = λ l. record { link = n; is_link = omega arith; ends_at = refl; offends = cc };
+  offended = λ l. record { link = n; is_link = omega arith; ends_at = refl; offends = passes };
 }
+
+module _ (N : Net) (dist : ℕ → ℕ) (n : ℕ) where
+  -- a link more that offers its end nothing less
+  pub least_skip : (o : Option ℕ) → LeastOffendedOf N dist n o → offends N dist n ≡ false → LeastOffendedOf N dist (n + 1) o
+  least_skip None h fails = least_later h (λ o. absurd (true≢false (sym o ∙ fails)))
+  least_skip (Some v) h fails = (h.0, least_later h.1 (λ o. absurd (true≢false (sym o ∙ fails))))
+
+  -- a link more that offers its end less
+  pub least_take : (o : Option ℕ) → LeastOffendedOf N dist n o → offends N dist n ≡ true → N.end n < most_nodes
+      → {v : ℕ} → v ≡ min (unwrap_or o (N.end n)) (N.end n) → LeastOffendedOf N dist (n + 1) (Some v)
+  least_take None h passes node {v} is = let same : v ≡ N.end n = omega arith in rw same (node, least_sooner h passes node)
+  least_take (Some u) h passes node {v} is = by (dec_lt (N.end n) u)
+    where
+      by : Dec (N.end n < u) → LeastOffendedOf N dist (n + 1) (Some v)
+      by (yes l) = let same : v ≡ N.end n = omega arith in rw same (node, least_sooner h.1 passes l)
+      by (no l) = let same : v ≡ u = omega arith in rw same (h.0, least_later h.1 (λ o. omega arith))

@@ -1,5 +1,5 @@
 -- The pass over the links: which nodes a link offers less than they have. Assumes nothing.
-use Rattle.std.specs.Prelude.{◌≡◌, Bool, true, false, ◌&&◌, ◌||◌, not, cond, List, ℕ, ◌+◌, ◌≤◌, ◌<◌, eqb, ltb, length, get_or}
+use Rattle.std.specs.Prelude.{◌≡◌, Bool, true, false, ◌&&◌, ◌||◌, not, cond, List, ℕ, Option, None, Some, ◌+◌, ◌≤◌, ◌<◌, eqb, ltb, length, get_or}
 use Rattle.rules.specs.Net.{Net}
 use Rattle.rules.specs.Tests.{usable}
 use Rattle.rules.specs.Columns.{Table, most_nodes, no_ceiling}
@@ -45,6 +45,11 @@ pub record Calm (t : Table) (bars : List ℕ) (n : ℕ) : Type 0 where
   pub is_few : n ≤ length t.starts
   pub none : (k : ℕ) → k < n → (ltb 0 (get_or t.costs k 0) && offers_by t bars k) ≡ false
 
+-- the same as an answer: of the links before one, or of all
+abbrev pub CalmTo : Table → List ℕ → Option ℕ → Type 0
+CalmTo t bars None = Calm t bars (length t.starts)
+CalmTo t bars (Some n) = (n < length t.starts) × Calm t bars n
+
 module _ (N : Net) (dist : ℕ → ℕ) where
   -- link k does, and is
   unfoldable pub offends : ℕ → Bool
@@ -63,3 +68,8 @@ module _ (N : Net) (dist : ℕ → ℕ) where
     pub within : v ≤ most_nodes
     pub least : (k : ℕ) → k < n → offends k ≡ true → v ≤ N.end k
     pub offended : v < most_nodes → Offended n v
+
+  -- the same as an answer: the node, or none
+  abbrev pub LeastOffendedOf : ℕ → Option ℕ → Type 0
+  LeastOffendedOf n None = LeastOffended n most_nodes
+  LeastOffendedOf n (Some v) = (v < most_nodes) × LeastOffended n v

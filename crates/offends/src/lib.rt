@@ -2,13 +2,13 @@
 #![tactic(auto)]
 
 ghost use Rattle.std.specs.Prelude.{◌≡◌, ◌≤◌, ◌<◌, length};
-ghost use Rattle.rules.specs.Columns.{Proper, most_nodes, no_ceiling};
-ghost use Rattle.heads.specs.Heads.{Heads};
+ghost use Rattle.rules.specs.Columns.{most_nodes, no_ceiling};
 ghost use Rattle.asked.specs.Asked.{Kept};
 ghost use Rattle.usable.specs.Standing.{table_at, net_at, dist_in};
-ghost use Rattle.offends.specs.Offends.{bar, Bars, Low, offers_by, offends_by, Calm, LeastOffended};
+ghost use Rattle.offends.specs.Offends.{bar, Bars, Low, offers_by, offends_by, CalmTo, LeastOffendedOf};
 
 use rules::Profile;
+use usable::{Net, Table};
 
 const NODES: usize = 256;
 
@@ -18,133 +18,76 @@ fn bar(mark: u32, ceiling: u64, dist: u32) -> u64
     ensures { result ≡ bar mark ceiling dist }
 {
     if dist == mark {
-        return ceiling;
+        ceiling
+    } else {
+        u64::from(dist).min(ceiling)
     }
-    if ceiling <= dist as u64 {
-        return ceiling;
-    }
-    dist as u64
 }
 
 // The same of every node, so that one comparison tells of a link what its ends' distances mean.
-fn bars(mark: u32, ceiling: u64, dist: &[u32]) -> [u64; 256]
-    requires { length dist.now ≡ most_nodes }
-    ensures { Bars mark ceiling dist.now most_nodes result }
+fn bars(profile: Profile, dist: &[u32; 256]) -> [u64; 256]
+    ensures { Bars profile.mark profile.ceiling dist.now most_nodes result }
 {
-    let mut bars = [0u64; 256];
-    let mut v: usize = 0;
-    while v < NODES {
-        bars[v] = bar(mark, ceiling, dist[v]);
-        v += 1;
+    let mut bars = [0; 256];
+    for v in 0..NODES {
+        bars[v] = bar(profile.mark, profile.ceiling, dist[v]);
     }
     bars
 }
 
 // Link k offers its end less than it has, or enters it though it is unreached, if it is usable.
-fn link_offers(
-    nodes: usize,
-    root: usize,
-    starts: &[u16],
-    ends: &[u16],
-    narrow: &[u16],
-    wide: &[u32],
-    bars: &[u64; 256],
-    k: usize,
-) -> bool
-    requires { Proper (table_at nodes root starts.now ends.now narrow.now wide.now) × (k < length starts.now) × Low bars.now }
-    ensures { result ≡ offers_by (table_at nodes root starts.now ends.now narrow.now wide.now) bars.now k }
+fn link_offers(table: &Table, bars: &[u64; 256], k: usize) -> bool
+    requires link { k < length table.now.starts.now }
+    requires low { Low bars.now }
+    ensures { result ≡ offers_by (table_at table.now) bars.now k }
 {
-    let from = starts[k] as usize;
-    let to = ends[k] as usize;
-    let sum = bars[from] + costs::at(narrow, wide, k) as u64;
-    sum < bars[to]
+    let sum = bars[table.start(k)] + u64::from(table.cost(k));
+    sum < bars[table.end(k)]
 }
 
 // It does, and is usable, which is asked last.
-fn link_offends(
-    profile: Profile,
-    nodes: usize,
-    root: usize,
-    starts: &[u16],
-    ends: &[u16],
-    narrow: &[u16],
-    wide: &[u32],
-    bars: &[u64; 256],
-    at: &[u16; 256],
-    asked: &mut [u16; 256],
-    k: usize,
-) -> bool
-    requires { Proper (table_at nodes root starts.now ends.now narrow.now wide.now) × (k < length starts.now) × Low bars.now × Heads starts.now at.now × Kept (table_at nodes root starts.now ends.now narrow.now wide.now) asked.old }
-    ensures { (result ≡ offends_by (net_at profile nodes root starts.now ends.now narrow.now wide.now) bars.now k) × Kept (table_at nodes root starts.now ends.now narrow.now wide.now) asked.new }
+fn link_offends(net: &Net, bars: &[u64; 256], asked: &mut [u16; 256], k: usize) -> bool
+    requires link { k < length net.now.table.starts.now }
+    requires low { Low bars.now }
+    requires kept { Kept (table_at net.now.table) asked.old }
+    ensures offends { result ≡ offends_by (net_at net.now.table) bars.now k }
+    ensures kept { Kept (table_at net.now.table) asked.new }
 {
-    if link_offers(nodes, root, starts, ends, narrow, wide, bars, k) {
-        return asked::usable(
-            profile, nodes, root, starts, ends, narrow, wide, at, asked, k,
-        );
-    }
-    false
+    link_offers(&net.table, bars, k) && asked::usable(net, asked, k)
 }
 
-// The first link that is up and would offend if it were usable, or the number of links. In a tree that fits there is
-// none, unless a link has no link back, and this is all that is asked.
-fn first_offering(
-    nodes: usize,
-    root: usize,
-    starts: &[u16],
-    ends: &[u16],
-    narrow: &[u16],
-    wide: &[u32],
-    bars: &[u64; 256],
-) -> usize
-    requires { Proper (table_at nodes root starts.now ends.now narrow.now wide.now) × Low bars.now }
-    ensures { Calm (table_at nodes root starts.now ends.now narrow.now wide.now) bars.now result }
+// The first link that is up and would offend if it were usable. In a tree that fits there is none, unless a link has no link
+// back, and this is all that is asked.
+fn first_offering(table: &Table, bars: &[u64; 256]) -> Option<usize>
+    requires { Low bars.now }
+    ensures { CalmTo (table_at table.now) bars.now result }
 {
-    let mut k: usize = 0;
-    while k < starts.len() {
-        let next = k + 1;
-        if usable::up(narrow, wide, k) {
-            if link_offers(nodes, root, starts, ends, narrow, wide, bars, k) {
-                return k;
-            }
+    for k in 0..table.starts.len() {
+        if table.up(k) && link_offers(table, bars, k) {
+            return Some(k);
         }
-        k = next;
     }
-    k
+    None
 }
 
-// The smallest node that a usable link from a reached node offers less than it has, or 256.
-pub fn least_offended(
-    profile: Profile,
-    nodes: usize,
-    root: usize,
-    starts: &[u16],
-    ends: &[u16],
-    narrow: &[u16],
-    wide: &[u32],
-    dist: &[u32],
-) -> usize
-    requires { Proper (table_at nodes root starts.now ends.now narrow.now wide.now) × (length dist.now ≡ most_nodes) × (profile.ceiling ≤ no_ceiling) }
-    ensures { LeastOffended (net_at profile nodes root starts.now ends.now narrow.now wide.now) (dist_in profile dist.now) (length starts.now) result }
+// The smallest node that a usable link from a reached node offers less than it has.
+pub fn least_offended(table: &Table, dist: &[u32; 256]) -> Option<usize>
+    requires { table.now.profile.ceiling ≤ no_ceiling }
+    ensures { LeastOffendedOf (net_at table.now) (dist_in table.now.profile dist.now) (length table.now.starts.now) result }
 {
-    let bars = bars(profile.mark, profile.ceiling, dist);
-    let mut k = first_offering(nodes, root, starts, ends, narrow, wide, &bars);
-    if k == starts.len() {
-        return NODES;
-    }
-    let at = heads::first_links(starts);
+    let bars = bars(table.profile, dist);
+    let first = first_offering(table, &bars)?;
+    let net = Net {
+        table: *table,
+        at: &heads::first_links(table.starts),
+    };
     let mut asked = [rules::NO_LINK; 256];
-    let mut least: u16 = 256;
-    while k < starts.len() {
-        let next = k + 1;
-        let end = ends[k];
-        if link_offends(
-            profile, nodes, root, starts, ends, narrow, wide, &bars, &at, &mut asked, k,
-        ) {
-            if end < least {
-                least = end;
-            }
+    let mut least: Option<usize> = None;
+    for k in first..table.starts.len() {
+        if link_offends(&net, &bars, &mut asked, k) {
+            let end = table.end(k);
+            least = Some(least.unwrap_or(end).min(end));
         }
-        k = next;
     }
-    least as usize
+    least
 }

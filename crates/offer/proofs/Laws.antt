@@ -8,7 +8,7 @@ use native.Mathlib.Decide.{dec_lt, ℕ_discrete}
 use lib.ListN.{length, get_or, set, length-set, get_or-eq_default}
 use lib.Seq.{get_or-set_same, get_or-set_other}
 use Rattle.rules.specs.Columns.{most_nodes}
-use Rattle.queue.specs.Queue.{empty, key_of, Rekeyed}
+use Rattle.queue.specs.Queue.{empty, key_of}
 use Rattle.rules.proofs.Logic.{get_d_any}
 use Rattle.offer.specs.Offer.{key_at, Keyed, idle, waits, Lined}
 
@@ -17,14 +17,14 @@ pub waits_now : {mark distance key v : ℕ} → mark < 2 ^ 32 → v < most_nodes
 waits_now fits is_node near e none = omega arith
 
 -- only a node is reached
-pub inside : {mark : ℕ} {dist keys mins : List ℕ} → Lined mark dist keys mins → (v : ℕ) → get_or dist v mark < mark → v < most_nodes
+pub inside : {mark : ℕ} {dist keys : List ℕ} → Lined mark dist keys → (v : ℕ) → get_or dist v mark < mark → v < most_nodes
 inside {mark} {dist} h v near = at (dec_lt v (length dist))
   where
     at : Dec (v < length dist) → v < most_nodes
     at (yes l) = omega (arith, h.long)
     at (no l) = let far : get_or dist v mark ≡ mark = get_or-eq_default dist mark (omega arith) in absurd (omega arith)
 
-module _ {mark : ℕ} {dist keys mins : List ℕ} (h : Lined mark dist keys mins) {v : ℕ} (is_node : v < most_nodes) where
+module _ {mark : ℕ} {dist keys : List ℕ} (h : Lined mark dist keys) {v : ℕ} (is_node : v < most_nodes) where
   -- what the code reads is the node's distance
   pub entry : get_or dist v 0 ≡ get_or dist v mark
   entry = get_d_any dist v 0 mark (omega (arith, h.long))
@@ -39,18 +39,18 @@ module _ {mark : ℕ} {dist keys mins : List ℕ} (h : Lined mark dist keys mins
 
     -- the key is at most the node's own
     pub key_falls : key_of sum v ≤ get_or keys v 0
-    key_falls = at (h.keyed v) (get_d_any keys v 0 empty (omega (arith, h.queue.keys_long)))
+    key_falls = at (h.keyed v) (get_d_any keys v 0 empty (omega (arith, h.keys_long)))
       where
         at : Keyed mark (get_or dist v mark) (key_at keys v) v → get_or keys v 0 ≡ key_at keys v → key_of sum v ≤ get_or keys v 0
         at (idle e) f = omega (arith, below_mark, h.mark_fits)
         at (waits near e) f = omega (arith, entry)
 
-    pub lined_taken : {keys' mins' : List ℕ} → Rekeyed keys v (key_of sum v) keys' mins' → Lined mark (set dist v sum) keys' mins'
-    lined_taken {keys'} r =
+    pub lined_taken : Lined mark (set dist v sum) (set keys v (key_of sum v))
+    lined_taken =
         record {
           mark_fits = h.mark_fits;
-          queue = r.queue;
           long = length-set dist v sum ∙ h.long;
+          keys_long = length-set keys v (key_of sum v) ∙ h.keys_long;
           most = λ u. most u (ℕ_discrete u v);
           keyed = λ u. keyed u (ℕ_discrete u v);
         }
@@ -58,13 +58,13 @@ module _ {mark : ℕ} {dist keys mins : List ℕ} (h : Lined mark dist keys mins
         here : get_or (set dist v sum) v mark ≡ sum
         here = get_or-set_same dist v sum mark (omega (arith, h.long))
 
-        key_here : key_at keys' v ≡ key_of sum v
-        key_here = rw r.is_set (get_or-set_same keys v (key_of sum v) empty (omega (arith, h.queue.keys_long)))
+        key_here : key_at (set keys v (key_of sum v)) v ≡ key_of sum v
+        key_here = get_or-set_same keys v (key_of sum v) empty (omega (arith, h.keys_long))
 
         most : (u : ℕ) → Dec (u ≡ v) → get_or (set dist v sum) u mark ≤ mark
         most u (yes e) = rw e (omega (arith, here, below_mark))
         most u (no n) = rw (get_or-set_other dist v u sum mark n) (h.most u)
 
-        keyed : (u : ℕ) → Dec (u ≡ v) → Keyed mark (get_or (set dist v sum) u mark) (key_at keys' u) u
+        keyed : (u : ℕ) → Dec (u ≡ v) → Keyed mark (get_or (set dist v sum) u mark) (key_at (set keys v (key_of sum v)) u) u
         keyed u (yes e) = rw (e, here, key_here) (waits below_mark refl)
-        keyed u (no n) = rw (get_or-set_other dist v u sum mark n, r.is_set, get_or-set_other keys v u (key_of sum v) empty n) (h.keyed u)
+        keyed u (no n) = rw (get_or-set_other dist v u sum mark n, get_or-set_other keys v u (key_of sum v) empty n) (h.keyed u)

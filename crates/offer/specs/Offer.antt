@@ -3,7 +3,7 @@
 use Rattle.std.specs.Prelude.{◌≡◌, List, ℕ, ◌+◌, ◌^◌, ◌≤◌, ◌<◌, length, get_or, set}
 use Rattle.rules.specs.Net.{Net, Usable}
 use Rattle.rules.specs.Columns.{most_nodes}
-use Rattle.queue.specs.Queue.{empty, key_of, Queue}
+use Rattle.queue.specs.Queue.{empty, key_of}
 
 -- node v's distance, its key, and the link found for it; v has the mark, no key and no link where there is no such node
 abbrev pub dist_at : Net → List ℕ → ℕ → ℕ
@@ -21,10 +21,10 @@ pub data Keyed (mark distance key node : ℕ) : Type 0 where
   waits : distance < mark → key ≡ key_of distance node → Keyed mark distance key node
 
 -- the distances, up to a mark of 32 bits, and the queue agree
-pub record Lined (mark : ℕ) (dist keys mins : List ℕ) : Type 0 where
+pub record Lined (mark : ℕ) (dist keys : List ℕ) : Type 0 where
   pub mark_fits : mark < 2 ^ 32
-  pub queue : Queue keys mins
   pub long : length dist ≡ most_nodes
+  pub keys_long : length keys ≡ most_nodes
   pub most : (v : ℕ) → get_or dist v mark ≤ mark
   pub keyed : (v : ℕ) → Keyed mark (get_or dist v mark) (key_at keys v) v
 

@@ -4,162 +4,121 @@
 #![tactic(auto)]
 
 ghost use Rattle.std.specs.Prelude.{◌≡◌, ◌<◌, length, set, replicate};
-ghost use Rattle.rules.specs.Columns.{Proper, most_nodes};
-ghost use Rattle.usable.specs.Standing.{table_at, net_at};
-ghost use Rattle.heads.specs.Heads.{Heads};
-ghost use Rattle.asked.specs.Asked.{Kept};
-ghost use Rattle.queue.specs.Queue.{empty, key_of, Rekeyed};
-ghost use Rattle.offer.specs.Offer.{Lined, Offered, Noted, Lowered, Told};
+ghost use Rattle.rules.specs.Columns.{most_nodes};
+ghost use Rattle.usable.specs.Standing.{net_at};
+ghost use Rattle.queue.specs.Queue.{empty, key_of};
+ghost use Rattle.offer.specs.Offer.{Offered, Noted, Lowered, Told};
+ghost use Rattle.offer.specs.Searching.{Ready, Unused};
 
-use rules::Profile;
+use queue::Queue;
+use rules::NO_LINK;
+use usable::Net;
 
-// The sum is offered to a link's end: one that is less is taken, and its link found. Whether the link is usable is asked
-// last.
-fn offer_less(
-    profile: Profile,
-    nodes: usize,
-    root: usize,
-    starts: &[u16],
-    ends: &[u16],
-    narrow: &[u16],
-    wide: &[u32],
-    at: &[u16; 256],
-    asked: &mut [u16; 256],
-    link: u16,
-    sum: u64,
-    dist: &mut [u32; 256],
-    keys: &mut [u64; 256],
-    mins: &mut [u64; 72],
-    found: &mut [u16; 256],
-)
-    requires { Proper (table_at nodes root starts.now ends.now narrow.now wide.now) × (link < length starts.now) × Lined profile.mark dist.old keys.old mins.old × (length found.old ≡ most_nodes) × Heads starts.now at.now × Kept (table_at nodes root starts.now ends.now narrow.now wide.now) asked.old }
-    ensures { Lined profile.mark dist.new keys.new mins.new × (length found.new ≡ most_nodes) × Offered (net_at profile nodes root starts.now ends.now narrow.now wide.now) link sum dist.old keys.old dist.new keys.new × Noted (net_at profile nodes root starts.now ends.now narrow.now wide.now) link sum dist.old found.old found.new × Kept (table_at nodes root starts.now ends.now narrow.now wide.now) asked.new }
-{
-    let k = link as usize;
-    let node = ends[k] as usize;
-    if sum < dist[node] as u64 {
-        let up = asked::usable(
-            profile, nodes, root, starts, ends, narrow, wide, at, asked, k,
-        );
-        if up {
-            dist[node] = sum as u32;
-            found[node] = link;
-            queue::put(keys, mins, node, sum as u32);
-        }
-    }
+// What a search works on: each node's distance so far, the nodes that wait, the link found for each, and the answers kept
+// on links back. What is known of it and a net is a clause, `Ready`: a struct that held the net too would have to say at each
+// call that the net stays.
+#[derive(Drop)]
+pub struct Search {
+    pub dist: [u32; 256],
+    pub queue: Queue,
+    pub found: [u16; 256],
+    pub asked: [u16; 256],
 }
 
-// The same, and a sum that equals the distance of a reached node may lower the link found.
-fn heed(
-    profile: Profile,
-    nodes: usize,
-    root: usize,
-    starts: &[u16],
-    ends: &[u16],
-    narrow: &[u16],
-    wide: &[u32],
-    at: &[u16; 256],
-    asked: &mut [u16; 256],
-    link: u16,
-    sum: u64,
-    dist: &mut [u32; 256],
-    keys: &mut [u64; 256],
-    mins: &mut [u64; 72],
-    found: &mut [u16; 256],
-)
-    requires { Proper (table_at nodes root starts.now ends.now narrow.now wide.now) × (link < length starts.now) × Lined profile.mark dist.old keys.old mins.old × (length found.old ≡ most_nodes) × Heads starts.now at.now × Kept (table_at nodes root starts.now ends.now narrow.now wide.now) asked.old }
-    ensures { Lined profile.mark dist.new keys.new mins.new × (length found.new ≡ most_nodes) × Offered (net_at profile nodes root starts.now ends.now narrow.now wide.now) link sum dist.old keys.old dist.new keys.new × Noted (net_at profile nodes root starts.now ends.now narrow.now wide.now) link sum dist.old found.old found.new × Lowered (net_at profile nodes root starts.now ends.now narrow.now wide.now) link sum dist.old found.new × Kept (table_at nodes root starts.now ends.now narrow.now wide.now) asked.new }
-{
-    let k = link as usize;
-    let node = ends[k] as usize;
-    if sum != dist[node] as u64 {
-        offer_less(
-            profile, nodes, root, starts, ends, narrow, wide, at, asked, link, sum, dist, keys,
-            mins, found,
-        );
-        return;
+impl Search {
+    // No node waits, and nothing was found or asked. Whoever starts it sets the distances in place.
+    pub fn new() -> Search
+        ensures { Unused result }
+    {
+        Search {
+            dist: [u32::MAX; 256],
+            queue: Queue::new(),
+            found: [NO_LINK; 256],
+            asked: [NO_LINK; 256],
+        }
     }
-    if link < found[node] {
-        if sum < profile.mark as u64 {
-            if asked::usable(
-                profile, nodes, root, starts, ends, narrow, wide, at, asked, k,
-            ) {
-                found[node] = link;
+
+    // The root's distance is 0, and it waits.
+    pub fn seed(&mut self, root: usize)
+        requires root { root < most_nodes }
+        requires none { self.old.queue ≡ replicate 256 empty }
+        ensures { self.new ≡ record self.old { dist = set self.old.dist root 0; queue = set self.old.queue root (key_of 0 root) } }
+    {
+        self.dist[root] = 0;
+        self.queue.put(root, 0);
+    }
+
+    // The sum is offered to a link's end: one that is less is taken, and its link found. Whether the link is usable is asked
+    // last.
+    fn offer_less(&mut self, net: &Net, link: u16, sum: u64)
+        requires ready { Ready net.now.table self.old }
+        requires link { link < length net.now.table.starts.now }
+        ensures ready { Ready net.now.table self.new }
+        ensures offered { Offered (net_at net.now.table) link sum self.old.dist self.old.queue self.new.dist self.new.queue }
+        ensures noted { Noted (net_at net.now.table) link sum self.old.dist self.old.found self.new.found }
+    {
+        let k = link as usize;
+        let node = net.table.end(k);
+        if sum < self.dist[node] as u64 {
+            let up = asked::usable(net, &mut self.asked, k);
+            if up {
+                self.dist[node] = sum as u32;
+                self.found[node] = link;
+                self.queue.put(node, sum as u32);
             }
         }
     }
-}
 
-// The same of any sum, for the loop: most are more than the end has, and that is told at once, before anything is handed on.
-pub fn offer(
-    profile: Profile,
-    nodes: usize,
-    root: usize,
-    starts: &[u16],
-    ends: &[u16],
-    narrow: &[u16],
-    wide: &[u32],
-    at: &[u16; 256],
-    asked: &mut [u16; 256],
-    link: u16,
-    sum: u64,
-    dist: &mut [u32; 256],
-    keys: &mut [u64; 256],
-    mins: &mut [u64; 72],
-    found: &mut [u16; 256],
-)
-    requires { Proper (table_at nodes root starts.now ends.now narrow.now wide.now) × (link < length starts.now) × Lined profile.mark dist.old keys.old mins.old × (length found.old ≡ most_nodes) × Heads starts.now at.now × Kept (table_at nodes root starts.now ends.now narrow.now wide.now) asked.old }
-    ensures { Lined profile.mark dist.new keys.new mins.new × (length found.new ≡ most_nodes) × Offered (net_at profile nodes root starts.now ends.now narrow.now wide.now) link sum dist.old keys.old dist.new keys.new × Noted (net_at profile nodes root starts.now ends.now narrow.now wide.now) link sum dist.old found.old found.new × Lowered (net_at profile nodes root starts.now ends.now narrow.now wide.now) link sum dist.old found.new × Kept (table_at nodes root starts.now ends.now narrow.now wide.now) asked.new }
-{
-    let k = link as usize;
-    let node = ends[k] as usize;
-    if (dist[node] as u64) < sum {
-        return;
+    // The same, and a sum that equals the distance of a reached node may lower the link found.
+    fn heed(&mut self, net: &Net, link: u16, sum: u64)
+        requires ready { Ready net.now.table self.old }
+        requires link { link < length net.now.table.starts.now }
+        ensures ready { Ready net.now.table self.new }
+        ensures offered { Offered (net_at net.now.table) link sum self.old.dist self.old.queue self.new.dist self.new.queue }
+        ensures noted { Noted (net_at net.now.table) link sum self.old.dist self.old.found self.new.found }
+        ensures lowered { Lowered (net_at net.now.table) link sum self.old.dist self.new.found }
+    {
+        let k = link as usize;
+        let node = net.table.end(k);
+        if sum != self.dist[node] as u64 {
+            self.offer_less(net, link, sum);
+            return;
+        }
+        if link < self.found[node] && sum < net.table.profile.mark as u64 {
+            if asked::usable(net, &mut self.asked, k) {
+                self.found[node] = link;
+            }
+        }
     }
-    heed(
-        profile, nodes, root, starts, ends, narrow, wide, at, asked, link, sum, dist, keys, mins,
-        found,
-    );
-}
 
-// A link is offered, unless its start is unreached: nothing is ever added to the mark. The sum is made in 64 bits, where it
-// can't wrap.
-pub fn offer_link(
-    profile: Profile,
-    nodes: usize,
-    root: usize,
-    starts: &[u16],
-    ends: &[u16],
-    narrow: &[u16],
-    wide: &[u32],
-    at: &[u16; 256],
-    asked: &mut [u16; 256],
-    link: u16,
-    dist: &mut [u32; 256],
-    keys: &mut [u64; 256],
-    mins: &mut [u64; 72],
-    found: &mut [u16; 256],
-)
-    requires { Proper (table_at nodes root starts.now ends.now narrow.now wide.now) × (link < length starts.now) × Lined profile.mark dist.old keys.old mins.old × (length found.old ≡ most_nodes) × Heads starts.now at.now × Kept (table_at nodes root starts.now ends.now narrow.now wide.now) asked.old }
-    ensures { Lined profile.mark dist.new keys.new mins.new × (length found.new ≡ most_nodes) × Told (net_at profile nodes root starts.now ends.now narrow.now wide.now) link dist.old keys.old found.old dist.new keys.new found.new × Kept (table_at nodes root starts.now ends.now narrow.now wide.now) asked.new }
-{
-    let k = link as usize;
-    let start = starts[k] as usize;
-    let near = dist[start];
-    if near < profile.mark {
-        let sum = near as u64 + costs::at(narrow, wide, k) as u64;
-        heed(
-            profile, nodes, root, starts, ends, narrow, wide, at, asked, link, sum, dist, keys,
-            mins, found,
-        );
+    // The same of any sum, for the loop: most are more than the end has, and that is told at once, before anything is handed
+    // on.
+    pub fn offer(&mut self, net: &Net, link: u16, sum: u64)
+        requires ready { Ready net.now.table self.old }
+        requires link { link < length net.now.table.starts.now }
+        ensures ready { Ready net.now.table self.new }
+        ensures offered { Offered (net_at net.now.table) link sum self.old.dist self.old.queue self.new.dist self.new.queue }
+        ensures noted { Noted (net_at net.now.table) link sum self.old.dist self.old.found self.new.found }
+        ensures lowered { Lowered (net_at net.now.table) link sum self.old.dist self.new.found }
+    {
+        let node = net.table.end(link as usize);
+        if sum <= self.dist[node] as u64 {
+            self.heed(net, link, sum);
+        }
     }
-}
 
-// The root's distance is 0, and it waits.
-pub fn seed(root: usize, dist: &mut [u32; 256], keys: &mut [u64; 256], mins: &mut [u64; 72])
-    requires { (root < 256) × (length dist.old ≡ most_nodes) × (keys.old ≡ replicate 256 empty) × (mins.old ≡ replicate 72 empty) }
-    ensures { (dist.new ≡ set dist.old root 0) × Rekeyed keys.old root (key_of 0 root) keys.new mins.new }
-{
-    dist[root] = 0;
-    queue::put(keys, mins, root, 0);
+    // A link is offered, unless its start is unreached: nothing is ever added to the mark. The sum is made in 64 bits, where
+    // it can't wrap.
+    pub fn offer_link(&mut self, net: &Net, link: u16)
+        requires ready { Ready net.now.table self.old }
+        requires link { link < length net.now.table.starts.now }
+        ensures ready { Ready net.now.table self.new }
+        ensures told { Told (net_at net.now.table) link self.old.dist self.old.queue self.old.found self.new.dist self.new.queue self.new.found }
+    {
+        let k = link as usize;
+        let near = self.dist[net.table.start(k)];
+        if near < net.table.profile.mark {
+            self.heed(net, link, near as u64 + net.table.cost(k) as u64);
+        }
+    }
 }

@@ -15,7 +15,7 @@ use Rattle.stream.specs.declared.Item.{Item}
 use Rattle.enter.specs.More.{entered}
 use Rattle.state.specs.declared.State.{State}
 use Rattle.state.specs.declared.Done.{Done}
-use Rattle.session.specs.Holding.{Lists}
+use Rattle.session.specs.declared.Lists.{Lists}
 use Rattle.session.specs.Steps.{link_verdict, change_verdict, Applied, Steps, out_of_order, unknown, cut, ended, network, link, change, apply, ask}
 use Rattle.outcomes.specs.Outcomes.{CostFits, CostsFit}
 use Rattle.outcomes.proofs.Led.{narrow_front}

@@ -30,7 +30,8 @@ use Rattle.state.specs.declared.State.{State}
 use Rattle.state.specs.declared.Done.{Done}
 use Rattle.order.specs.Order.{is_unread, is_linking}
 use Rattle.state.specs.States.{table_of, networked, changing}
-use Rattle.session.specs.Holding.{Lists, Holds, unread}
+use Rattle.session.specs.declared.Lists.{Lists}
+use Rattle.session.specs.Holding.{Holds, unread}
 use Rattle.session.specs.Steps.{link_verdict, change_verdict, Ready, begins, stays, Steps, out_of_order, unknown, cut, ended, network, link, change, apply, ask}
 use Rattle.session.proofs.Keeps.{tree_of, met_stands, applied_table, linked_phase, steps_keep}
 use Rattle.outcomes.specs.Outcomes.{Led, none, next, Answers, Reports}

@@ -26,7 +26,8 @@ use Rattle.enter.proofs.Links.{full as past_links, last_decides as link_decides}
 use Rattle.enter.proofs.Rows.{full as past_rows, last_decides as row_decides}
 use Rattle.state.specs.States.{table_of, networked, linked, changing, asked}
 use Rattle.state.proofs.Laws.{asks_none}
-use Rattle.session.specs.Holding.{Lists, table_in, tree_in, lent_in, Holds}
+use Rattle.session.specs.declared.Lists.{Lists}
+use Rattle.session.specs.Holding.{table_in, tree_in, lent_in, Holds}
 use Rattle.session.specs.Steps.{link_verdict, link_lists, change_verdict, change_lists, Ready, begins, stays, Steps, out_of_order, unknown, cut, ended, network, link, change, apply, ask}
 use Rattle.session.proofs.Keeps.{table_of_lem, lent_of, met_stands}
 use Rattle.outcomes.specs.Outcomes.{ForKind, node_count, no_root, no_place, bad_ends, wrong_order, no_row, no_such_link, again, no_node, unknown_kind, cut_short, Listed, disorder, for_kind, Left}

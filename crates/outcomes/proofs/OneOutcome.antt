@@ -17,7 +17,8 @@ use Rattle.state.specs.declared.State.{State}
 use Rattle.state.specs.declared.Done.{Done}
 use Rattle.order.specs.Order.{is_unread, is_linking, in_order}
 use Rattle.state.specs.States.{refusing, networked, linked, changing, begun, applied, asked}
-use Rattle.session.specs.Holding.{Lists, lists}
+use Rattle.session.specs.declared.Lists.{Lists}
+use Rattle.session.specs.Holding.{lists}
 use Rattle.session.specs.Steps.{link_verdict, link_lists, change_verdict, change_lists, Begun, Applied, Ready, begins, stays, Steps, out_of_order, unknown, cut, ended, network, link, change, apply, ask}
 
 -- ---- the tree's struct and its arrays

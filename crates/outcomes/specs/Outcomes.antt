@@ -12,7 +12,7 @@ use Rattle.state.specs.declared.State.{State}
 use Rattle.state.specs.declared.Done.{Done}
 use Rattle.order.specs.Order.{in_order}
 use Rattle.state.specs.States.{table_of}
-use Rattle.session.specs.Holding.{Lists}
+use Rattle.session.specs.declared.Lists.{Lists}
 use Rattle.session.specs.Steps.{Begun, Ready, Steps}
 
 -- the refusals of each kind: 1 and 2 at NETWORK, 3 (the 4,097th), 4 and 5 at LINK, 7 (the 257th since the last APPLY),

@@ -5,16 +5,15 @@ use mathlib.Core.Bool.{true}
 use mathlib.Core.List.{List, [], ◌∷◌, ◌++◌, append_assoc}
 use Prim.Native.Nat.{ℕ, suc, ◌+◌, ◌-◌, ◌≤◌, ◌<◌}
 use native.Mathlib.Omega.{arith}
-use native.Mathlib.Numerals.{add-one}
 use lib.Dec.{T, ltb, ltb→lt, lt→ltb}
 use lib.ListN.{length, get_or, take, drop, set, length-append}
-use lib.Seq.{length-take-le, take-suc, drop-cons, take_at, set_at, drop-set-lt, get_or-set_same, lt-length-set}
+use lib.Seq.{drop-cons, take_at, drop-set-lt, get_or-set_same, lt-length-set}
+use Rattle.std.specs.Prelude.{None, Some}
 use Rattle.rules.specs.Columns.{most_nodes}
 use Rattle.rules.specs.Keep.{count}
 use Rattle.rules.proofs.Logic.{count_lt, count_all}
 use Rattle.rules.specs.Jobs.{written}
 use Rattle.path.specs.Climb.{Parents, link_to, above, Step, Climbable, Way, at_root, by_parent, Counted, FilledFrom, Traces, traced, short}
-use Rattle.path.specs.declared.Traced.TheVariants.{Written, TooShort}
 
 -- ---- the list
 
@@ -50,59 +49,38 @@ module _ {p : Parents} where
       let long = length-append links (link_to p v ∷ []) in
       record { step = s; rest = record { is_node = s.is_node; links = links; way = w; few = omega arith } }
 
-  none_to_root : {v n : ℕ} {links : List ℕ} → Way p v links → v ≡ p.root → 0 + length links ≡ n → (list : List ℕ) → FilledFrom p v n list list
-  none_to_root at_root here e list = record { links = []; way = at_root; count = omega arith; listed = refl }
-  none_to_root (by_parent m s w) here e list = absurd (m here)
-
   last_of : {v n : ℕ} {links : List ℕ} → Way p v links → v ≢ p.root → 0 + length links ≡ n → Last p v n
   last_of at_root m e = absurd (m refl)
   last_of (by_parent {v} {links} m s w) k e =
       let long = length-append links (link_to p v ∷ []) in
       record { step = s; some = omega arith; rest = record { links = links; way = w; count = omega arith } }
 
-module _ {p : Parents} {v : ℕ} where
-  -- ---- at the root
+-- ---- below the root
 
-  module _ (here : v ≡ p.root) where
-    pub counted_root : {below : ℕ} → Counted p v below below
-    counted_root = record { links = []; way = rw here at_root; count = omega arith }
+module _ {p : Parents} {v : ℕ} (below_root : v ≢ p.root) where
+  pub climb_last : {below : ℕ} → Climbable p v below → Climb p v below
+  climb_last c = climb_of c.way below_root c.few
 
-    pub filled_root : {n : ℕ} → Counted p v 0 n → (list : List ℕ) → FilledFrom p v n list list
-    filled_root c list = none_to_root c.way here c.count list
+  pub counted_last : {n : ℕ} → Counted p v 0 n → Last p v n
+  counted_last c = last_of c.way below_root c.count
 
-  -- ---- below it, where u is the node that v's parent link k starts at
+  pub counted_more : {below total : ℕ} → Step p v → Counted p (above p v) (below + 1) total → Counted p v below total
+  counted_more {below} {total} s c = record {
+    links = c.links ++ (link_to p v ∷ []);
+    way = by_parent below_root s c.way;
+    count = omega (arith, c.count, length-append c.links (link_to p v ∷ []));
+  }
 
-  module _ (below_root : v ≢ p.root) where
-    pub climb_last : {below : ℕ} → Climbable p v below → Climb p v below
-    climb_last c = climb_of c.way below_root c.few
-
-    pub counted_last : {n : ℕ} → Counted p v 0 n → Last p v n
-    counted_last c = last_of c.way below_root c.count
-
-    module _ {u : ℕ} (up : u ≡ above p v) where
-      pub climb_more : {below : ℕ} → Climb p v below → Climbable p u (below + 1)
-      climb_more c = rw up c.rest
-
-      pub nearer : Step p v → get_or p.dist u 0 < get_or p.dist v 0
-      nearer s = rw up s.nearer
-
-      pub counted_more : {below total : ℕ} → Step p v → Counted p u (below + 1) total → Counted p v below total
-      counted_more {below} {total} s c = record {
-        links = c.links ++ (link_to p v ∷ []);
-        way = by_parent below_root s (rw up at c.way);
-        count = omega (arith, c.count, length-append c.links (link_to p v ∷ []));
+  pub filled_more : {n : ℕ} {list exit : List ℕ} → Step p v → 0 < n → n ≤ length list
+      → FilledFrom p (above p v) (n - 1) (set list (n - 1) (link_to p v)) exit → FilledFrom p v n list exit
+  filled_more {n} {list} s some room f =
+      let long : suc (length f.links) ≡ n = omega (arith, f.count) in
+      record {
+        links = f.links ++ (link_to p v ∷ []);
+        way = by_parent below_root s f.way;
+        count = omega (arith, f.count, length-append f.links (link_to p v ∷ []));
+        listed = f.listed ∙ rw (← f.count) (written_last f.links (link_to p v) n list long room);
       }
-
-      pub filled_more : {n : ℕ} {list exit : List ℕ} → Step p v → 0 < n → n ≤ length list
-          → FilledFrom p u (n - 1) (set list (n - 1) (link_to p v)) exit → FilledFrom p v n list exit
-      filled_more {n} {list} s some room f =
-          let long : suc (length f.links) ≡ n = omega (arith, f.count) in
-          record {
-            links = f.links ++ (link_to p v ∷ []);
-            way = by_parent below_root s (rw up at f.way);
-            count = omega (arith, f.count, length-append f.links (link_to p v ∷ []));
-            listed = f.listed ∙ rw (← f.count) (written_last f.links (link_to p v) n list long room);
-          }
 
 -- ---- no path has as many links as there are nodes, since each of them starts at a nearer one
 
@@ -138,31 +116,13 @@ module _ (p : Parents) where
 pub few_links : {p : Parents} {v n : ℕ} → v < most_nodes → Counted p v 0 n → n < most_nodes
 few_links {p} {v} l c = omega (arith, c.count, links_nearer p c.way, not_all_nearer p v l)
 
--- ---- the list that is lent
-
-pub filled_long : {p : Parents} {v n : ℕ} {entry exit : List ℕ} → FilledFrom p v n entry exit → n ≤ length exit
-filled_long {entry = entry} f =
-    rw f.listed (omega (arith, f.count, length-append f.links (drop (length f.links) entry)))
-
-pub front_long : {p : Parents} {v n : ℕ} {entry exit : List ℕ} → FilledFrom p v n entry exit → length (take n exit) ≡ n
-front_long {n = n} {exit = exit} f = length-take-le n exit (filled_long f)
-
--- one place more of the front is written
-pub copied_more : (front list : List ℕ) (i : ℕ) → i < length front → length front ≤ length list
-    → set (take i front ++ drop i list) i (get_or front i 0) ≡ take (i + 1) front ++ drop (i + 1) list
-copied_more front list i l m =
-    let here : length (take i front) ≡ i = length-take-le i front (omega arith) in
-    let room : i < length list = omega arith in
-    rw (add-one, take-suc front i 0 l, append_assoc, drop-cons list i 0 room)
-    (set_at (take i front) (get_or list i 0) (drop (suc i) list) (get_or front i 0) i here)
-
 -- ---- the answer
 
-pub traced_short : {p : Parents} {node n : ℕ} {list : List ℕ} → Counted p node 0 n → length list < n → Traces p node list TooShort list
+pub traced_short : {p : Parents} {node n : ℕ} {list : List ℕ} → Counted p node 0 n → length list < n → Traces p node list None list
 traced_short c l = short c.way (omega (arith, c.count))
 
 pub traced_whole : {p : Parents} {node n : ℕ} {room links list exit : List ℕ} → FilledFrom p node n room links → n ≤ length list
-    → exit ≡ written (take n links) list → Traces p node list (Written n) exit
+    → exit ≡ take n links ++ drop n list → Traces p node list (Some n) exit
 traced_whole {n = n} {room} {links} f l e =
     let front : take n links ≡ f.links = rw f.listed (take_at f.links (drop (length f.links) room) n f.count) in
     rw (e, front, ← f.count) (traced f.way (omega (arith, f.count)))

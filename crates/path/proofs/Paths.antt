@@ -10,6 +10,7 @@ use native.Mathlib.Omega.{arith}
 use lib.Dec.{leb}
 use lib.ListN.{get_or}
 use borrow.Author.Tests.{leb-false, not-false}
+use Rattle.std.specs.Prelude.{Option, None, Some}
 use Rattle.rules.specs.Net.{Net}
 use Rattle.rules.specs.Fit.{Rows, Hung, Fits, Path, Reached}
 use Rattle.rules.specs.Tests.{reached}
@@ -23,17 +24,15 @@ use Rattle.rules.proofs.Sound.{hangs}
 use Rattle.rules.proofs.Judged.{then_first, then_second, when_not, tree_accepted}
 use Rattle.path.specs.Climb.{Parents, parents, link_to, Step, Climbable, Way, at_root, by_parent, Traces, traced, short}
 use Rattle.path.proofs.Laws.{few_links}
-use Rattle.path.specs.declared.Traced.{Traced}
-use Rattle.path.specs.declared.Traced.TheVariants.{Written, TooShort}
 
 -- what the rules say of an answer: refusal 12, or acceptance with the count
-abbrev pub verdict_of : Traced → Verdict
-verdict_of (Written n) = accepted
-verdict_of TooShort = refused 12 (only 0)
+abbrev pub verdict_of : Option ℕ → Verdict
+verdict_of (Some n) = accepted
+verdict_of None = refused 12 (only 0)
 
-abbrev pub count_of : Traced → ℕ
-count_of (Written n) = n
-count_of TooShort = 0
+abbrev pub count_of : Option ℕ → ℕ
+count_of (Some n) = n
+count_of None = 0
 
 abbrev pub parents_of : Table → Arrays → Parents
 parents_of t tree = parents t.root t.starts tree.dist tree.parent
@@ -119,7 +118,7 @@ module _ (t : Table) (tree : Arrays) (node : ℕ) (w : Whole tree) (e : judge_as
   asked_climbable = climbable narrow fits.0 w fits.1 node is_node is_reached
 
   -- what its promise says
-  pub traces_pathed : {list exit : List ℕ} {r : Traced} → Traces (parents_of t tree) node list r exit
+  pub traces_pathed : {list exit : List ℕ} {r : Option ℕ} → Traces (parents_of t tree) node list r exit
       → Pathed t tree node list (verdict_of r) exit (count_of r)
   traces_pathed (traced way l) = pathed e (way_path narrow fits.0 w fits.1 way is_reached) l
   traces_pathed (short way l) = too_short e (way_path narrow fits.0 w fits.1 way is_reached) l

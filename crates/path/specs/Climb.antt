@@ -1,10 +1,10 @@
 -- The climb from a node to the root by parent links, and what tracing a node's path gives back. proofs/Laws.antt
 -- shows that a tree that fits can be climbed, and that what is traced is the rules' path. Assumes nothing.
-use Rattle.std.specs.Prelude.{◌≡◌, ◌≢◌, List, [], ◌∷◌, ◌++◌, ℕ, ◌+◌, ◌≤◌, ◌<◌, length, get_or}
+use Rattle.std.specs.Prelude.{◌≡◌, ◌≢◌, List, [], ◌∷◌, ◌++◌, ℕ, Option, None, Some, ◌+◌, ◌≤◌, ◌<◌, length, get_or}
 use Rattle.rules.specs.Columns.{most_nodes}
 use Rattle.rules.specs.Jobs.{written}
-use Rattle.path.specs.declared.Traced.{Traced}
-use Rattle.path.specs.declared.Traced.TheVariants.{Written, TooShort}
+use Rattle.rules.specs.declared.Links.{Links}
+use Rattle.rules.specs.declared.Arrays.{Arrays}
 
 -- what a climb looks at: the root, the links' starts, and the tree's distances and parent links
 pub record Parents : Type 0 where
@@ -15,6 +15,9 @@ pub record Parents : Type 0 where
 
 abbrev pub parents : ℕ → List ℕ → List ℕ → List ℕ → Parents
 parents root starts dist parent = record { root = root; starts = starts; dist = dist; parent = parent }
+
+abbrev pub climb_in : Links → Arrays → Parents
+climb_in links tree = parents links.root links.starts.now tree.dist.now tree.parent.now
 
 module _ (p : Parents) where
   abbrev pub link_to : ℕ → ℕ
@@ -55,8 +58,8 @@ module _ (p : Parents) where
     pub count : length links ≡ n
     pub listed : exit ≡ written links entry
 
-  -- the answer, and the list at exit
-  pub data Traces (node : ℕ) (list : List ℕ) : Traced → List ℕ → Type 0 where
+  -- the answer, which is how many links are written where there is room for them, and the list at exit
+  pub data Traces (node : ℕ) (list : List ℕ) : Option ℕ → List ℕ → Type 0 where
     traced : {links : List ℕ} → Way node links → length links ≤ length list
-        → Traces node list (Written (length links)) (written links list)
-    short : {links : List ℕ} → Way node links → length list < length links → Traces node list TooShort list
+        → Traces node list (Some (length links)) (written links list)
+    short : {links : List ℕ} → Way node links → length list < length links → Traces node list None list

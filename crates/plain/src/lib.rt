@@ -3,18 +3,29 @@
 
 ghost use Rattle.std.specs.Prelude.{◌≡◌, [], ◌∷◌};
 ghost use Rattle.stream.specs.Records.{read_at};
-ghost use Rattle.rules.specs.Answers.{number_of, value_of, second_of};
+ghost use Rattle.rules.specs.Answers.{told, count_in, number_in, value_in, second_in};
 ghost use Rattle.plain.specs.Readings.{HandedBack, parts_of};
 
-use rules::Answer;
+use rules::Refusal;
 use stream::Item;
 
 // The number, with both values written.
-pub fn tell(answer: Answer, values: &mut [u16; 2]) -> u16
-    ensures { (result ≡ number_of answer) × (values.new ≡ value_of answer ∷ second_of answer ∷ []) }
+pub fn tell(answer: Result<(), Refusal>, values: &mut [u16; 2]) -> u16
+    ensures number { result ≡ number_in (told answer) }
+    ensures values { values.new ≡ value_in (told answer) ∷ second_in (told answer) ∷ [] }
 {
     *values = [rules::value(answer), rules::second(answer)];
     rules::number(answer)
+}
+
+// The same of an answer that counts, with its count written, 0 where it refuses.
+pub fn tell_count(answer: Result<usize, Refusal>, count: &mut usize, values: &mut [u16; 2]) -> u16
+    ensures number { result ≡ number_in (told answer) }
+    ensures values { values.new ≡ value_in (told answer) ∷ second_in (told answer) ∷ [] }
+    ensures count { count.new ≡ count_in answer }
+{
+    *count = answer.unwrap_or(0);
+    tell(answer.map(|_| ()), values)
 }
 
 // A record as other languages take it: its kind, and its numbers, 32 bits wide, with 0 in the places that it doesn't have. Where there
@@ -25,42 +36,22 @@ struct Parts {
     numbers: [u32; 3],
 }
 
-fn take_apart(item: Item) -> Parts
-    ensures { result ≡ parts_of item }
-{
-    match item {
-        Item::Network { nodes, root } => Parts {
-            kind: 1,
-            numbers: [nodes as u32, root as u32, 0],
-        },
-        Item::Link { start, end, cost } => Parts {
-            kind: 2,
-            numbers: [start as u32, end as u32, cost as u32],
-        },
-        Item::Change { link, cost } => Parts {
-            kind: 3,
-            numbers: [link as u32, cost as u32, 0],
-        },
-        Item::Apply => Parts {
-            kind: 4,
-            numbers: [0, 0, 0],
-        },
-        Item::Ask { node } => Parts {
-            kind: 5,
-            numbers: [node as u32, 0, 0],
-        },
-        Item::End => Parts {
-            kind: 0,
-            numbers: [0, 0, 0],
-        },
-        Item::UnknownKind(_) => Parts {
-            kind: 0,
-            numbers: [0, 0, 0],
-        },
-        Item::CutShort(_) => Parts {
-            kind: 0,
-            numbers: [0, 0, 0],
-        },
+impl From<Item> for Parts {
+    ghost from_gives = { λ item parts. parts ≡ parts_of item };
+
+    fn from(item: Item) -> Parts {
+        let (kind, numbers) = match item {
+            Item::Network { nodes, root } => (1, [u32::from(nodes), u32::from(root), 0]),
+            Item::Link { start, end, cost } => (
+                2,
+                [u32::from(start), u32::from(end), u32::from(cost)],
+            ),
+            Item::Change { link, cost } => (3, [u32::from(link), u32::from(cost), 0]),
+            Item::Apply => (4, [0, 0, 0]),
+            Item::Ask { node } => (5, [u32::from(node), 0, 0]),
+            Item::End | Item::UnknownKind(_) | Item::CutShort(_) => (0, [0, 0, 0]),
+        };
+        Parts { kind, numbers }
     }
 }
 
@@ -75,11 +66,12 @@ pub fn read(
     ensures { HandedBack (read_at bytes.now place) result kind.new numbers.new next.new }
 {
     let read = stream::read_at(bytes, place);
-    let item = read.item;
-    let told = take_apart(item);
-    let three = told.numbers;
-    *kind = told.kind;
+    let Parts {
+        kind: told,
+        numbers: three,
+    } = Parts::from(read.item);
+    *kind = told;
     *numbers = three;
     *next = read.next;
-    stream::number(item)
+    stream::number(read.item)
 }

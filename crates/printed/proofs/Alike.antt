@@ -4,7 +4,7 @@
 use mathlib.Core.Path.{◌≡◌, refl, sym, ap, ◌∙◌}
 use mathlib.Core.Bool.{Bool, true, false, cond}
 use mathlib.Core.List.{List, [], ◌∷◌, ◌++◌, map}
-use Prim.Native.Nat.{ℕ, ◌+◌, ◌-◌, ◌≤◌, ◌<◌}
+use Prim.Native.Nat.{ℕ, ◌+◌, ◌≤◌, ◌<◌}
 use native.Mathlib.Omega.{arith}
 use native.Mathlib.Decide.{dec_lt}
 use lib.Dec.{leb}
@@ -31,7 +31,8 @@ use Rattle.enter.specs.More.{judge_waiting}
 use Rattle.state.specs.States.{table_of, waiting, refusing, networked, linked, changing, begun, asked, is_refusal}
 use Rattle.session.specs.Steps.{link_verdict, link_lists, change_verdict, change_lists, Begun, Applied, Ready, begins, stays, Steps}
 use Rattle.order.specs.Order.{in_order}
-use Rattle.session.specs.Holding.{Lists, lists}
+use Rattle.session.specs.declared.Lists.{Lists}
+use Rattle.session.specs.Holding.{lists}
 use Rattle.enter.proofs.Entries.{entry_written}
 use Rattle.words.specs.Words.{decimal}
 use Rattle.lines.specs.Lines.{letter_a, ending, line_of}

@@ -20,7 +20,7 @@ use Rattle.order.specs.declared.Phase.TheVariants.{Unread}
 use Rattle.order.specs.Order.{is_unread}
 use Rattle.state.specs.declared.State.{State}
 use Rattle.state.specs.declared.Done.{Done}
-use Rattle.session.specs.Holding.{Lists}
+use Rattle.session.specs.declared.Lists.{Lists}
 use Rattle.session.specs.Steps.{Steps}
 use Rattle.outcomes.specs.Outcomes.{Led, none, next, Answers, CostFits, CostsFit}
 use Rattle.outcomes.proofs.Costs.{steps_fit}

@@ -19,7 +19,7 @@ use Rattle.state.specs.declared.Out.TheVariants.{Refused}
 use Rattle.state.specs.declared.State.{State}
 use Rattle.state.specs.declared.Done.{Done}
 use Rattle.state.specs.States.{networked, linked, changing, asked}
-use Rattle.session.specs.Holding.{Lists}
+use Rattle.session.specs.declared.Lists.{Lists}
 use Rattle.session.specs.Steps.{link_verdict, change_verdict, Steps, out_of_order, unknown, cut, ended, network, link, change, apply, ask}
 use Rattle.outcomes.specs.Outcomes.{CostsFit}
 use Rattle.outcomes.proofs.Listed.{met}

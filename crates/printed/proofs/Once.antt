@@ -2,7 +2,7 @@
 use mathlib.Core.Path.{◌≡◌, refl, sym, ap, ◌∙◌}
 use mathlib.Core.Bool.{Bool, true, false, not, ◌&&◌}
 use mathlib.Core.List.{List, [], ◌++◌}
-use Prim.Native.Nat.{ℕ, suc, ◌+◌, ◌≤◌, ◌<◌}
+use Prim.Native.Nat.{ℕ, suc, ◌≤◌, ◌<◌}
 use native.Mathlib.Omega.{arith}
 use native.Mathlib.Decide.{dec_lt}
 use lib.ListN.{length, length-append}
@@ -11,7 +11,8 @@ use Rattle.splits.proofs.Splits.{both}
 use Rattle.earlier.specs.Earlier.{earlier_of}
 use Rattle.order.specs.declared.Phase.TheVariants.{Unread}
 use Rattle.state.specs.declared.State.{State}
-use Rattle.session.specs.Holding.{Lists, Holds}
+use Rattle.session.specs.declared.Lists.{Lists}
+use Rattle.session.specs.Holding.{Holds}
 use Rattle.session.proofs.Keeps.{columns_of, lent_of}
 use Rattle.outcomes.proofs.OneOutcome.{steps_once}
 use Rattle.lines.specs.Lines.{line_of}

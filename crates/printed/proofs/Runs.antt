@@ -16,7 +16,7 @@ use Rattle.state.specs.declared.State.{State}
 use Rattle.state.specs.declared.Done.{Done}
 use Rattle.state.specs.States.{refusing}
 use Rattle.order.specs.Order.{is_unread}
-use Rattle.session.specs.Holding.{Lists}
+use Rattle.session.specs.declared.Lists.{Lists}
 use Rattle.session.specs.Steps.{Steps, out_of_order, unknown as unknown_kind, cut as cut_short, ended, network, link, change, apply, ask}
 use Rattle.earlier.specs.Earlier.{earlier_of}
 use Rattle.lines.specs.Lines.{line_of, line_of, refusal_line}

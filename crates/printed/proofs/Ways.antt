@@ -15,7 +15,8 @@ use Rattle.state.specs.declared.Done.{Done}
 use Rattle.state.specs.States.{refusing, networked, linked, changing, asked}
 use Rattle.session.specs.Steps.{link_verdict, link_lists, change_verdict, change_lists, Applied, Ready, begins, stays, Steps, out_of_order, unknown, cut, ended, network, link, change, apply, ask}
 use Rattle.order.specs.Order.{is_unread, is_linking, in_order}
-use Rattle.session.specs.Holding.{Lists, lists}
+use Rattle.session.specs.declared.Lists.{Lists}
+use Rattle.session.specs.Holding.{lists}
 
 pub record Changes (s : State) (k : Lists) (named cost : ℕ) (d : Done) (l : Lists) : Type 0 where
   pub at : State

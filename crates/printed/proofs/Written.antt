@@ -9,7 +9,8 @@ use lib.ListN.{length, take, drop}
 use lib.Seq.{take_at}
 use Rattle.order.specs.declared.Phase.TheVariants.{Unread}
 use Rattle.state.specs.declared.State.{State}
-use Rattle.session.specs.Holding.{Lists, Holds}
+use Rattle.session.specs.declared.Lists.{Lists}
+use Rattle.session.specs.Holding.{Holds}
 use Rattle.outcomes.specs.Outcomes.{CostsFit}
 use Rattle.words.specs.Putting.{Put}
 use Rattle.turn.specs.declared.Turn.{Turn}

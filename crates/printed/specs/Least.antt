@@ -7,7 +7,7 @@ use Rattle.stream.specs.declared.Item.TheVariants.{Ask}
 use Rattle.stream.specs.Records.{read_at}
 use Rattle.state.specs.declared.State.{State}
 use Rattle.state.specs.declared.Done.{Done}
-use Rattle.session.specs.Holding.{Lists}
+use Rattle.session.specs.declared.Lists.{Lists}
 use Rattle.outcomes.specs.Outcomes.{Led, Answers}
 use Rattle.lines.specs.Lines.{row_line, changed_line, refusal_line, again_line}
 

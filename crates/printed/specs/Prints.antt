@@ -2,7 +2,8 @@
 use Rattle.std.specs.Prelude.{ℕ, ◌≡◌, Bool, true, false, List, [], ◌++◌, take}
 use Rattle.order.specs.declared.Phase.TheVariants.{Unread}
 use Rattle.state.specs.declared.State.{State}
-use Rattle.session.specs.Holding.{Lists, Holds}
+use Rattle.session.specs.declared.Lists.{Lists}
+use Rattle.session.specs.Holding.{Holds}
 use Rattle.outcomes.specs.Outcomes.{CostsFit}
 use Rattle.turn.specs.declared.Turn.{Turn}
 use Rattle.turns.specs.Filling.{Tells, Filled}

@@ -4,12 +4,25 @@
 use mathlib.Core.Path.{◌≡◌, refl, sym, ◌∙◌}
 use mathlib.Core.Logic.{◌⊎◌, inl, inr, ◌≢◌}
 use mathlib.Core.List.{List}
-use Prim.Native.Nat.{ℕ, ◌+◌, ◌*◌, ◌-◌, ◌/◌, ◌≤◌, ◌<◌}
+use Prim.Native.Nat.{ℕ, ◌+◌, ◌*◌, ◌-◌, ◌/◌, ◌%◌, ◌≤◌, ◌<◌, min}
 use native.Mathlib.Omega.{arith}
 use native.Mathlib.Decide.{dec_lt, ℕ_discrete}
 use lib.ListN.{length, get_or, set, replicate, length-set, length-replicate, get_or-replicate}
 use lib.Seq.{get_or-set_same, get_or-set_other}
-use Rattle.queue.specs.Queue.{empty, Lesser, Least, LeastKey, Queue, Rekeyed}
+use Rattle.queue.specs.Queue.{empty, Least, Heaped, NoneWaits, Nearest}
+
+-- r is the lesser of two numbers
+pub record Lesser (a b r : ℕ) : Type 0 where
+  pub left : r ≤ a
+  pub right : r ≤ b
+  pub one : (r ≡ a) ⊎ (r ≡ b)
+
+pub lesser : {a b r : ℕ} → r ≡ min a b → Lesser a b r
+lesser {a} {b} {r} e = record { left = omega arith; right = omega arith; one = by (dec_lt a b) }
+  where
+    by : Dec (a < b) → (r ≡ a) ⊎ (r ≡ b)
+    by (yes l) = inl (omega arith)
+    by (no l) = inr (omega arith)
 
 -- ---- the least of a run of places
 
@@ -74,20 +87,19 @@ least_lower {xs} {from} {to} {old} h {at} {key} {r} m n inside lower l = by l.on
 
 -- ---- the queue with one key set
 
-module _ {keys mins : List ℕ} (q : Queue keys mins) {node : ℕ} (is_node : node < 256) (key : ℕ) where
+module _ {keys mins : List ℕ} (q : Heaped keys mins) {node : ℕ} (is_node : node < 256) {key : ℕ} (fits : key ≤ empty) (named : key ≢ empty → key % 256 ≡ node) where
   -- the four and the eight that the node stands in, made anew
-  pub rekeyed : {x y : ℕ} → Least (set keys node key) (node / 4 * 4) (node / 4 * 4 + 4) x
+  pub heaped : {x y : ℕ} → Least (set keys node key) (node / 4 * 4) (node / 4 * 4 + 4) x
       → Least (set mins (node / 4) x) (node / 32 * 8) (node / 32 * 8 + 8) y
-      → Rekeyed keys node key (set keys node key) (set (set mins (node / 4) x) (64 + node / 32) y)
-  rekeyed {x} {y} four eight =
+      → Heaped (set keys node key) (set (set mins (node / 4) x) (64 + node / 32) y)
+  heaped {x} {y} four eight =
       record {
-        is_set = refl;
-        queue = record {
-          keys_long = length-set keys node key ∙ q.keys_long;
-          mins_long = length-set (set mins (node / 4) x) (64 + node / 32) y ∙ length-set mins (node / 4) x ∙ q.mins_long;
-          fours = λ g l. rw (get_or-set_other (set mins (node / 4) x) (64 + node / 32) g y 0 (omega arith)) (fours g l (ℕ_discrete g (node / 4)));
-          eights = λ g l. least_elsewhere (eights g l (ℕ_discrete g (node / 32))) (64 + node / 32) y (λ i a b. omega arith);
-        };
+        keys_long = length-set keys node key ∙ q.keys_long;
+        mins_long = length-set (set mins (node / 4) x) (64 + node / 32) y ∙ length-set mins (node / 4) x ∙ q.mins_long;
+        fours = λ g l. rw (get_or-set_other (set mins (node / 4) x) (64 + node / 32) g y 0 (omega arith)) (fours g l (ℕ_discrete g (node / 4)));
+        eights = λ g l. least_elsewhere (eights g l (ℕ_discrete g (node / 32))) (64 + node / 32) y (λ i a b. omega arith);
+        fits = λ v l. below v l (ℕ_discrete v node);
+        named = λ v l. still v l (ℕ_discrete v node);
       }
     where
       fours : (g : ℕ) → g < 64 → Dec (g ≡ node / 4) → Least (set keys node key) (g * 4) (g * 4 + 4) (get_or (set mins (node / 4) x) g 0)
@@ -101,25 +113,36 @@ module _ {keys mins : List ℕ} (q : Queue keys mins) {node : ℕ} (is_node : no
           rw (get_or-set_other (set mins (node / 4) x) (64 + node / 32) (64 + g) y 0 (omega arith), get_or-set_other mins (node / 4) (64 + g) x 0 (omega arith))
           (least_elsewhere (q.eights g l) (node / 4) x (λ i a b e. d (omega arith)))
 
+      below : (v : ℕ) → v < 256 → Dec (v ≡ node) → get_or (set keys node key) v 0 ≤ empty
+      below v l (yes e) = rw (e, get_or-set_same keys node key 0 (omega (arith, q.keys_long))) fits
+      below v l (no d) = rw (get_or-set_other keys node v key 0 d) (q.fits v l)
+
+      still : (v : ℕ) → v < 256 → Dec (v ≡ node) → get_or (set keys node key) v 0 ≢ empty → get_or (set keys node key) v 0 % 256 ≡ v
+      still v l (yes e) = rw (e, get_or-set_same keys node key 0 (omega (arith, q.keys_long))) named
+      still v l (no d) = rw (get_or-set_other keys node v key 0 d) (q.named v l)
+
   -- a key that is at most the node's own
-  pub rekeyed_lower : key ≤ get_or keys node 0 → {x y : ℕ} → Lesser key (get_or mins (node / 4) 0) x → Lesser x (get_or (set mins (node / 4) x) (64 + node / 32) 0) y
-      → Rekeyed keys node key (set keys node key) (set (set mins (node / 4) x) (64 + node / 32) y)
-  rekeyed_lower own {x} a b =
+  pub heaped_lower : key ≤ get_or keys node 0 → {x y : ℕ} → x ≡ min key (get_or mins (node / 4) 0) → y ≡ min x (get_or (set mins (node / 4) x) (64 + node / 32) 0)
+      → Heaped (set keys node key) (set (set mins (node / 4) x) (64 + node / 32) y)
+  heaped_lower own {x} a b =
+      let four = lesser a in
       let top = get_or-set_other mins (node / 4) (64 + node / 32) x 0 (omega arith) in
-      rekeyed
-      (least_lower (q.fours (node / 4) (omega arith)) (omega arith) (omega arith) (omega (arith, q.keys_long)) own a)
-      (least_lower (q.eights (node / 32) (omega arith)) (omega arith) (omega arith) (omega (arith, q.mins_long)) a.right (rw top at b))
+      heaped
+      (least_lower (q.fours (node / 4) (omega arith)) (omega arith) (omega arith) (omega (arith, q.keys_long)) own four)
+      (least_lower (q.eights (node / 32) (omega arith)) (omega arith) (omega arith) (omega (arith, q.mins_long)) four.right (rw top at (lesser b)))
 
 -- ---- what a caller reads
 
 -- nothing waits
-pub queue_none : Queue (replicate 256 empty) (replicate 72 empty)
-queue_none =
+pub heaped_none : Heaped (replicate 256 empty) (replicate 72 empty)
+heaped_none =
     record {
       keys_long = length-replicate 256 empty;
       mins_long = length-replicate 72 empty;
       fours = λ g l. rw (get_or-replicate 72 g empty 0 (omega arith)) (run 256 (g * 4) (g * 4 + 4) (omega arith) (omega arith));
       eights = λ g l. rw (get_or-replicate 72 (64 + g) empty 0 (omega arith)) (run 72 (g * 8) (g * 8 + 8) (omega arith) (omega arith));
+      fits = λ v l. rw (get_or-replicate 256 v empty 0 l) (omega arith);
+      named = λ v l n. absurd (n (get_or-replicate 256 v empty 0 l));
     }
   where
     run : (n from to : ℕ) → from < to → to ≤ n → Least (replicate n empty) from to empty
@@ -133,7 +156,7 @@ queue_none =
         }
 
 -- the least of the top is the least key
-pub least_key : {keys mins : List ℕ} {r : ℕ} → Queue keys mins → LeastKey mins r → Least keys 0 256 r
+least_key : {keys mins : List ℕ} {r : ℕ} → Heaped keys mins → Least mins 64 72 r → Least keys 0 256 r
 least_key {keys} {mins} {r} q top =
     let above : 64 + (top.place - 64) ≡ top.place = omega (arith, top.not_before) in
     let eight = rw above at (q.eights (top.place - 64) (omega (arith, top.not_before, top.not_behind))) in
@@ -145,3 +168,17 @@ least_key {keys} {mins} {r} q top =
       not_behind = omega (arith, four.not_behind, eight.not_behind, top.not_behind);
       here = four.here ∙ eight.here ∙ top.here;
     }
+
+module _ {keys mins : List ℕ} {r : ℕ} (q : Heaped keys mins) (top : Least mins 64 72 r) where
+  pub none_waits : r ≡ empty → NoneWaits keys
+  none_waits e v l = omega (arith, q.fits v l, (least_key q top).low v (omega arith) l)
+
+  pub all_wait_not : NoneWaits keys → r ≡ empty
+  all_wait_not n = let least = least_key q top in sym least.here ∙ n least.place least.not_behind
+
+  pub nearest : r ≢ empty → Nearest keys (r % 256) (set keys (r % 256) empty)
+  nearest n =
+      let least = least_key q top in
+      let name : r % 256 ≡ least.place = rw least.here at (q.named least.place least.not_behind (rw least.here n)) in
+      let here : get_or keys (r % 256) 0 ≡ r = rw name least.here in
+      record { is_node = omega arith; waits = rw here n; least = λ v l. rw here (least.low v (omega arith) l); is_set = refl }

@@ -1,19 +1,33 @@
-// A queue of at most 256 nodes, by the numbers that they wait with, with no heap. A node's key stands at its own place.
-// Above the keys stand the least of each four of them, at places 0 to 63 of `mins`, and the least of each eight of
-// those, at places 64 to 71.
+// A queue of at most 256 nodes, by the numbers that they wait with, with no heap.
 #![tactic(auto)]
 
-ghost use Rattle.std.specs.Prelude.{◌≡◌, ◌+◌, ◌≤◌, ◌<◌, length, get_or};
-ghost use Rattle.queue.specs.Queue.{empty, key_of, Lesser, Least, LeastKey, Queue, Rekeyed};
+ghost use Rattle.std.specs.Prelude.{◌≡◌, true, ◌↔◌, ◌+◌, ◌≤◌, ◌<◌, length, get_or, set, replicate};
+ghost use Rattle.queue.specs.Queue.{empty, key_of, Least, Heaped, NoneWaits, Popped};
+
+use std::marker::Model;
 
 // The key of a node that doesn't wait.
-pub const EMPTY: u64 = 18_446_744_073_709_551_615;
+const EMPTY: u64 = u64::MAX;
 
-// The lesser of two keys.
-fn lesser(a: u64, b: u64) -> u64
-    ensures { Lesser a b result }
-{
-    if a < b { a } else { b }
+// A waiting node's key is its distance and its number, so that nearer nodes come first, and stands at the node's own place.
+// Above the keys stand the least of each four of them, at places 0 to 63 of `mins`, and the least of each eight of those, at
+// places 64 to 71.
+#[derive(Drop)]
+pub struct Queue {
+    keys: [u64; 256],
+    mins: [u64; 72],
+}
+
+impl Model for Queue {
+    ghost use Rattle.std.specs.Prelude.{List, ℕ};
+
+    ghost Value = { List ℕ };
+
+    ghost view = { λ q. q.keys };
+
+    ghost use Rattle.queue.specs.Queue.{Heaped};
+
+    ghost invariant = { λ q. Heaped q.keys q.mins };
 }
 
 // The least of four keys.
@@ -21,10 +35,9 @@ fn least_of_four(keys: &[u64], from: usize) -> u64
     requires { from + 4 ≤ length keys.now }
     ensures { Least keys.now from (from + 4) result }
 {
-    lesser(
-        lesser(keys[from], keys[from + 1]),
-        lesser(keys[from + 2], keys[from + 3]),
-    )
+    keys[from]
+        .min(keys[from + 1])
+        .min(keys[from + 2].min(keys[from + 3]))
 }
 
 // The least of eight keys.
@@ -32,39 +45,56 @@ fn least_of_eight(keys: &[u64], from: usize) -> u64
     requires { from + 8 ≤ length keys.now }
     ensures { Least keys.now from (from + 8) result }
 {
-    lesser(least_of_four(keys, from), least_of_four(keys, from + 4))
+    least_of_four(keys, from).min(least_of_four(keys, from + 4))
 }
 
-// The least key, or the empty one.
-pub fn least(mins: &[u64; 72]) -> u64
-    ensures { LeastKey mins.now result }
-{
-    least_of_eight(mins, 64)
-}
+impl Queue {
+    // No node waits.
+    pub fn new() -> Queue
+        ensures { result ≡ replicate 256 empty }
+    {
+        Queue {
+            keys: [EMPTY; 256],
+            mins: [EMPTY; 72],
+        }
+    }
 
-// The node waits with this distance, which is no farther than the one that it waited with. Its key is the distance and
-// its number: nearer nodes come first. Three numbers are stored, whatever they are.
-pub fn put(keys: &mut [u64; 256], mins: &mut [u64; 72], node: usize, distance: u32)
-    requires { Queue keys.old mins.old × (node < 256) × (key_of distance node ≤ get_or keys.old node 0) }
-    ensures { Rekeyed keys.old node (key_of distance node) keys.new mins.new }
-{
-    let key = distance as u64 * 256 + node as u64;
-    keys[node] = key;
-    let four = node / 4;
-    let least = lesser(key, mins[four]);
-    mins[four] = least;
-    let top = 64 + node / 32;
-    mins[top] = lesser(least, mins[top]);
-}
+    pub fn is_empty(&self) -> bool
+        ensures { (result ≡ true) ↔ NoneWaits self.now }
+    {
+        least_of_eight(&self.mins, 64) == EMPTY
+    }
 
-// The node waits no longer.
-pub fn take(keys: &mut [u64; 256], mins: &mut [u64; 72], node: usize)
-    requires { Queue keys.old mins.old × (node < 256) }
-    ensures { Rekeyed keys.old node empty keys.new mins.new }
-{
-    keys[node] = EMPTY;
-    let four = node / 4;
-    mins[four] = least_of_four(keys, four * 4);
-    let top = node / 32;
-    mins[64 + top] = least_of_eight(mins, top * 8);
+    // The node waits with this distance, which is no farther than the one that it waited with. Three numbers are stored,
+    // whatever they are.
+    pub fn put(&mut self, node: usize, distance: u32)
+        requires node { node < 256 }
+        requires nearer { key_of distance node ≤ get_or self.old node 0 }
+        ensures { self.new ≡ set self.old node (key_of distance node) }
+    {
+        let key = distance as u64 * 256 + node as u64;
+        self.keys[node] = key;
+        let four = node / 4;
+        let least = key.min(self.mins[four]);
+        self.mins[four] = least;
+        let eight = 64 + node / 32;
+        self.mins[eight] = least.min(self.mins[eight]);
+    }
+
+    // The nearest node that waits, which waits no longer.
+    pub fn pop(&mut self) -> Option<usize>
+        ensures { Popped self.old result self.new }
+    {
+        let key = least_of_eight(&self.mins, 64);
+        if key == EMPTY {
+            return None;
+        }
+        let node = (key % 256) as usize;
+        self.keys[node] = EMPTY;
+        let four = node / 4;
+        self.mins[four] = least_of_four(&self.keys, four * 4);
+        let eight = node / 32;
+        self.mins[64 + eight] = least_of_eight(&self.mins, eight * 8);
+        Some(node)
+    }
 }

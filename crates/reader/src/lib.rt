@@ -35,8 +35,8 @@ impl<'a> Reader<'a> {
         let read = stream::read_at(self.stream, self.place);
         Step {
             reader: Reader {
-                stream: self.stream,
                 place: read.next,
+                ..self
             },
             item: read.item,
         }

@@ -1,40 +1,22 @@
-// The path to one node, over a lent table and lent arrays.
+// The path to one node, over a lent table and a lent tree.
 #![tactic(auto)]
 
-ghost use Rattle.rules.specs.Answers.{told};
+ghost use Rattle.rules.specs.Answers.{told, count_in};
 ghost use Rattle.rules.specs.Jobs.{Pathed};
-ghost use Rattle.rules.specs.Columns.{table, arrays};
+ghost use Rattle.rules.specs.Lent.{table_of, arrays_of};
 
-use path::Traced;
-use rules::Answer;
+use rules::{Arrays, Links, Refusal};
 
 // Refusals 1 to 6 and 10 to 12. The links from the root to the node stand at the front of the list then, and are counted.
-pub fn path<'a>(
-    nodes: usize,
-    root: usize,
-    starts: &'a [u16],
-    ends: &[u16],
+pub fn path(
+    links: &Links,
     costs: &[u16],
-    dist: &'a [u32; 256],
-    parent: &'a [u16; 256],
-    first: &'a [u16; 256],
+    tree: &Arrays,
     node: usize,
     list: &mut [u16],
-    count: &mut usize,
-) -> Answer
-    ensures { Pathed (table nodes root starts.now ends.now costs.now) (arrays dist.now parent.now first.now) node list.old (told result) list.new count.new }
+) -> Result<usize, Refusal>
+    ensures { Pathed (table_of links.now costs.now) (arrays_of tree.now) node list.old (told result) list.new (count_in result) }
 {
-    *count = 0;
-    let answer = judge::judge_asked(nodes, root, starts, ends, costs, dist, parent, first, node);
-    if rules::number(answer) != 0 {
-        return answer;
-    }
-    let traced = path::trace(root, node, starts, dist, parent, list);
-    match traced {
-        Traced::Written(n) => {
-            *count = n;
-            answer
-        }
-        Traced::TooShort => Answer::ListTooShort,
-    }
+    judge::judge_asked(links, costs, tree, node)?;
+    path::trace(links, tree, node, list).ok_or(Refusal::ListTooShort)
 }

@@ -4,7 +4,9 @@
 
 ghost use Rattle.printed.specs.Prints.{Written};
 
+use session::Lists;
 use state::State;
+use turn::Turn;
 
 const STDIN: i32 = 0;
 
@@ -12,10 +14,7 @@ const STDOUT: i32 = 1;
 
 // Once a write has failed nothing more is written.
 fn write(writing: bool, text: &[u8]) -> bool {
-    if !writing {
-        return false;
-    }
-    io::write_all(STDOUT, text)
+    writing && io::write_all(STDOUT, text)
 }
 
 // What the stream prints, written part after part. No contract speaks of what a process writes; this one says that the
@@ -23,35 +22,25 @@ fn write(writing: bool, text: &[u8]) -> bool {
 fn run(stream: &[u8])
     ensures { Written stream.now }
 {
-    let mut starts = [0u16; 4096];
-    let mut ends = [0u16; 4096];
-    let mut costs = [0u16; 4096];
-    let mut changed = [0u16; 256];
-    let mut newcosts = [0u16; 256];
-    let mut list = [0u16; 256];
-    let mut text = [0u8; 32_768];
-    let mut state = State::start();
-    let mut place: usize = 0;
-    let mut more = true;
+    let mut lists = Lists {
+        starts: [0; 4096],
+        ends: [0; 4096],
+        costs: [0; 4096],
+        changed: [0; 256],
+        newcosts: [0; 256],
+        list: [0; 256],
+    };
+    let mut text = [0; 32_768];
+    let mut turn = Turn {
+        state: State::start(),
+        next: 0,
+        end: 0,
+        more: true,
+    };
     let mut writing = true;
-    while more {
-        let part = turns::fill(
-            stream,
-            place,
-            state,
-            &mut starts,
-            &mut ends,
-            &mut costs,
-            &mut changed,
-            &mut newcosts,
-            &mut list,
-            &mut text,
-        );
-        let end = part.end;
-        writing = write(writing, &text[..end]);
-        state = part.state;
-        place = part.next;
-        more = part.more;
+    while turn.more {
+        turn = turns::fill(stream, turn.next, turn.state, &mut lists, &mut text);
+        writing = write(writing, &text[..turn.end]);
     }
 }
 

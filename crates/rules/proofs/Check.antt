@@ -4,7 +4,7 @@ use mathlib.Core.Logic.{◌⊎◌, inl, inr, ◌≢◌}
 use mathlib.Core.Bool.{Bool, true, false, ◌||◌, not}
 use Prim.Native.Nat.{ℕ, ◌≤◌}
 use native.Mathlib.Decide.{ℕ_discrete}
-use lib.Dec.{T, eqb, ltb, leb, eqb→eq, ltb→lt, leb→le, lt→ltb, le→leb, not_T, T_not}
+use lib.Dec.{T, eqb, leb, eqb→eq, ltb→lt, leb→le, lt→ltb, le→leb, not_T, T_not}
 use Rattle.rules.specs.Net.{Net, Usable}
 use Rattle.rules.specs.Fit.{Rows, Reached, Tight, Offer, RootRow, Bare, Hung, Row, root, hung, bare}
 use Rattle.rules.specs.Tests.{all, usable, reached, sum_by, tight, offers, root_row, bare_row, first_link_by, hung_row, breaks}

@@ -1,9 +1,10 @@
 -- One input admits one outcome: two results that keep the rules on one input are equal, as whole arrays and lists.
 -- Assumes nothing.
-use mathlib.Core.Bool.{cond}
+use mathlib.Core.Bool.{cond, true≢false}
 use mathlib.Core.Path.{◌≡◌, refl, sym, ap, ◌∙◌}
 use mathlib.Core.List.{List, [], ◌∷◌}
 use Prim.Native.Nat.{ℕ}
+use Rattle.std.specs.Prelude.{Ok, Err, is_ok}
 use native.Mathlib.Omega.{arith}
 use lib.ListN.{length, set, length-set}
 use lib.Dec.{eqb}
@@ -11,11 +12,11 @@ use lib.Seq.{ext_get_or}
 use Rattle.rules.specs.Keep.{Fresh, Next}
 use Rattle.rules.specs.Columns.{Table, Proper, Arrays, Whole, net_of, rows_of, applied, after, unreached, no_link}
 use Rattle.rules.specs.Refusals.{Verdict, accepted, refused, judge_links, judge_tree, judge_batch, judge_update}
-use Rattle.rules.specs.Answers.{told, number_in, number_of}
+use Rattle.rules.specs.Answers.{Answer, refusal, told, number_in, number_of}
 use Rattle.rules.specs.Jobs.{written, changed_below, Built, built, not_built, Updated, updated, not_updated, Pathed, pathed, too_short, not_pathed}
 use Rattle.rules.specs.declared.Change.{Change}
-use Rattle.rules.specs.declared.Answer.{Answer}
-use Rattle.rules.specs.declared.Answer.TheVariants.{Accepted, WrongNodeCount, WrongRoot, WrongColumns, WrongEnds, WrongOrder, TreeUnfit, TooManyRows, RowNamesNoLink, RowNamesLinkAgain, AskedNoNode, AskedUnreached, ListTooShort}
+use Rattle.rules.specs.declared.Refusal.{Refusal}
+use Rattle.rules.specs.declared.Refusal.TheVariants.{WrongNodeCount, WrongRoot, WrongColumns, WrongEnds, WrongOrder, TreeUnfit, TooManyRows, RowNamesNoLink, RowNamesLinkAgain, AskedNoNode, AskedUnreached, ListTooShort}
 use Rattle.rules.proofs.Unique.{same_dist, same_parent, same_first, fresh_next}
 use Rattle.rules.proofs.Sound.{path_unique}
 use Rattle.rules.proofs.Judged.{links_proper, legal, then_first, not_refused}
@@ -23,59 +24,63 @@ use Rattle.rules.proofs.Judged.{links_proper, legal, then_first, not_refused}
 -- ---- answers: the number and the values tell the case
 
 answer_of : Verdict → Answer
-answer_of accepted = Accepted
+answer_of accepted = Ok tt
 answer_of (refused number values) =
-    cond (eqb number 1) WrongNodeCount (
-    cond (eqb number 2) WrongRoot (
-    cond (eqb number 3) WrongColumns (
-    cond (eqb number 4) (WrongEnds values.value) (
-    cond (eqb number 5) (WrongOrder values.value) (
-    cond (eqb number 6) (TreeUnfit values.value) (
-    cond (eqb number 7) TooManyRows (
-    cond (eqb number 8) (RowNamesNoLink values.value) (
-    cond (eqb number 9) (RowNamesLinkAgain values.value values.second) (
-    cond (eqb number 10) AskedNoNode (
-    cond (eqb number 11) AskedUnreached (
-    ListTooShort)))))))))))
+    cond (eqb number 1) (Err WrongNodeCount) (
+    cond (eqb number 2) (Err WrongRoot) (
+    cond (eqb number 3) (Err WrongColumns) (
+    cond (eqb number 4) (Err (WrongEnds values.value)) (
+    cond (eqb number 5) (Err (WrongOrder values.value)) (
+    cond (eqb number 6) (Err (TreeUnfit values.value)) (
+    cond (eqb number 7) (Err TooManyRows) (
+    cond (eqb number 8) (Err (RowNamesNoLink values.value)) (
+    cond (eqb number 9) (Err (RowNamesLinkAgain values.value values.second)) (
+    cond (eqb number 10) (Err AskedNoNode) (
+    cond (eqb number 11) (Err AskedUnreached) (
+    Err ListTooShort)))))))))))
 
 answer_back : (a : Answer) → answer_of (told a) ≡ a
 unfolding answer_of
-answer_back Accepted = refl
-answer_back WrongNodeCount = refl
-answer_back WrongRoot = refl
-answer_back WrongColumns = refl
-answer_back (WrongEnds link) = refl
-answer_back (WrongOrder link) = refl
-answer_back (TreeUnfit node) = refl
-answer_back TooManyRows = refl
-answer_back (RowNamesNoLink row) = refl
-answer_back (RowNamesLinkAgain row earlier) = refl
-answer_back AskedNoNode = refl
-answer_back AskedUnreached = refl
-answer_back ListTooShort = refl
+answer_back (Ok tt) = refl
+answer_back (Err WrongNodeCount) = refl
+answer_back (Err WrongRoot) = refl
+answer_back (Err WrongColumns) = refl
+answer_back (Err (WrongEnds link)) = refl
+answer_back (Err (WrongOrder link)) = refl
+answer_back (Err (TreeUnfit node)) = refl
+answer_back (Err TooManyRows) = refl
+answer_back (Err (RowNamesNoLink row)) = refl
+answer_back (Err (RowNamesLinkAgain row earlier)) = refl
+answer_back (Err AskedNoNode) = refl
+answer_back (Err AskedUnreached) = refl
+answer_back (Err ListTooShort) = refl
 
 pub told_once : {a b : Answer} → told a ≡ told b → a ≡ b
 told_once {a} {b} e = sym (answer_back a) ∙ ap answer_of e ∙ answer_back b
 
--- an answer that is told as acceptance is Accepted
-pub told_accepted : (a : Answer) → told a ≡ accepted → a ≡ Accepted
+-- an answer that is told as acceptance refuses nothing
+pub told_accepted : (a : Answer) → told a ≡ accepted → a ≡ Ok tt
 told_accepted a e = told_once e
+
+-- and no refusal is
+pub refusal_refuses : (r : Refusal) → refusal r ≡ accepted → ⊥
+refusal_refuses r e = true≢false (sym (ap is_ok (told_accepted (Err r) e)))
 
 -- what the code learns from an answer's number
 number_zero : (a : Answer) → number_of a ≡ 0 → told a ≡ accepted
-number_zero Accepted e = refl
-number_zero WrongNodeCount e = absurd (omega arith)
-number_zero WrongRoot e = absurd (omega arith)
-number_zero WrongColumns e = absurd (omega arith)
-number_zero (WrongEnds link) e = absurd (omega arith)
-number_zero (WrongOrder link) e = absurd (omega arith)
-number_zero (TreeUnfit node) e = absurd (omega arith)
-number_zero TooManyRows e = absurd (omega arith)
-number_zero (RowNamesNoLink row) e = absurd (omega arith)
-number_zero (RowNamesLinkAgain row earlier) e = absurd (omega arith)
-number_zero AskedNoNode e = absurd (omega arith)
-number_zero AskedUnreached e = absurd (omega arith)
-number_zero ListTooShort e = absurd (omega arith)
+number_zero (Ok tt) e = refl
+number_zero (Err WrongNodeCount) e = absurd (omega arith)
+number_zero (Err WrongRoot) e = absurd (omega arith)
+number_zero (Err WrongColumns) e = absurd (omega arith)
+number_zero (Err (WrongEnds link)) e = absurd (omega arith)
+number_zero (Err (WrongOrder link)) e = absurd (omega arith)
+number_zero (Err (TreeUnfit node)) e = absurd (omega arith)
+number_zero (Err TooManyRows) e = absurd (omega arith)
+number_zero (Err (RowNamesNoLink row)) e = absurd (omega arith)
+number_zero (Err (RowNamesLinkAgain row earlier)) e = absurd (omega arith)
+number_zero (Err AskedNoNode) e = absurd (omega arith)
+number_zero (Err AskedUnreached) e = absurd (omega arith)
+number_zero (Err ListTooShort) e = absurd (omega arith)
 
 module _ (a : Answer) {number : ℕ} (is : number ≡ number_of a) where
   pub number_accepts : number ≡ 0 → told a ≡ accepted

@@ -7,7 +7,7 @@ use Prim.Native.Nat.{ℕ, ◌+◌, ◌*◌, ◌≤◌, ◌<◌}
 use native.Mathlib.Omega.{arith}
 use native.Mathlib.Nat.{mul-suc, mul-le-mul_left}
 use lib.Dec.{ltb, ltb→lt, lt→ltb}
-use Rattle.rules.specs.Net.{Net, Legal, Roomy, Walk, at_root, along}
+use Rattle.rules.specs.Net.{Net, Legal, Roomy, Walk, along}
 use Rattle.rules.specs.Fit.{Rows, Reached, Tight, Offer, Row, root, hung, bare, Fits}
 use Rattle.rules.specs.Keep.{count}
 use Rattle.rules.proofs.Logic.{by_size, count_lt, count_all}

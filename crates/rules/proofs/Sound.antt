@@ -7,7 +7,7 @@ use Prim.Native.Nat.{ℕ, ◌+◌, ◌≤◌, ◌<◌}
 use native.Mathlib.Omega.{arith}
 use native.Mathlib.Decide.{ℕ_discrete, dec_lt}
 use lib.ListN.{get_or}
-use Rattle.rules.specs.Net.{Net, Legal, Usable, Walk, at_root, along, Least}
+use Rattle.rules.specs.Net.{Net, Legal, Usable, Walk, along, Least}
 use Rattle.rules.specs.Fit.{Rows, total, Reached, Offer, Bare, Hung, Row, root, hung, bare, Fits, Path, by_parent, Routed, Shortest}
 use Rattle.rules.proofs.Logic.{by_size}
 

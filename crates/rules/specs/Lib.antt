@@ -5,6 +5,7 @@ pub mod Fit
 pub mod Keep
 pub mod Tests
 pub mod Columns
+pub mod Lent
 pub mod Refusals
 pub mod Applies
 pub mod Answers

@@ -1,8 +1,8 @@
-// What a job answers, what a batch holds and what numbers a profile has. What they mean stands in specs/.
+// What a job refuses, what a batch holds and what numbers a profile has. What they mean stands in specs/.
 #![tactic(auto)]
 
 ghost use Rattle.std.specs.Prelude.{◌≡◌};
-ghost use Rattle.rules.specs.Columns.{narrow};
+ghost use Rattle.rules.specs.Columns.{narrow, arrays, Whole};
 ghost use Rattle.rules.specs.Answers.{number_of, value_of, second_of};
 
 // The distance of an unreached node, and "no link" where a link number is expected.
@@ -10,10 +10,9 @@ pub const UNREACHED: u32 = 16_777_215;
 
 pub const NO_LINK: u16 = 65_535;
 
-// Accepted, or one of the refusals of the scope's table, with the values that it carries.
-#[derive(Clone, Copy)]
-pub enum Answer {
-    Accepted,
+// The refusals of the scope's table, with the values that they carry. A job answers `Ok(())` where it refuses nothing.
+#[derive(Clone, Copy, PartialEq, Eq)]
+pub enum Refusal {
     WrongNodeCount,
     WrongRoot,
     WrongColumns,
@@ -30,6 +29,51 @@ pub enum Answer {
     AskedNoNode,
     AskedUnreached,
     ListTooShort,
+}
+
+// A table of links as it is lent, its costs aside: the node count, the root, and where each link starts and ends. Any numbers
+// may stand in it.
+#[derive(Clone, Copy)]
+pub struct Links<'a> {
+    pub nodes: usize,
+    pub root: usize,
+    pub starts: &'a [u16],
+    pub ends: &'a [u16],
+}
+
+// A node's row in a tree: its distance, its parent link and its first link.
+#[derive(Clone, Copy, PartialEq, Eq)]
+pub struct Row {
+    pub dist: u32,
+    pub parent: u16,
+    pub first: u16,
+}
+
+// A tree as its three arrays are lent. Any numbers may stand in it.
+#[derive(Clone, Copy)]
+pub struct Arrays<'a> {
+    pub dist: &'a [u32; 256],
+    pub parent: &'a [u16; 256],
+    pub first: &'a [u16; 256],
+    pub ghost whole: { Whole (arrays dist.now parent.now first.now) },
+}
+
+impl<'a> Arrays<'a> {
+    ghost use Rattle.std.specs.Prelude.{◌≡◌, ◌<◌};
+    ghost use Rattle.rules.specs.Columns.{most_nodes};
+    ghost use Rattle.rules.specs.Lent.{arrays_of, row_at};
+
+    // The row of a node.
+    pub fn row(&self, node: usize) -> Row
+        requires { node < most_nodes }
+        ensures { result ≡ row_at (arrays_of self.now) node }
+    {
+        Row {
+            dist: self.dist[node],
+            parent: self.parent[node],
+            first: self.first[node],
+        }
+    }
 }
 
 // The numbers by which a table's costs are read: the largest cost, the sum from which on a path is no route, and the
@@ -60,64 +104,44 @@ pub struct Change {
 }
 
 // The refusal's number in the scope's table, and 0 where nothing is refused.
-pub fn number(answer: Answer) -> u16
+pub fn number(answer: Result<(), Refusal>) -> u16
     ensures { result ≡ number_of answer }
 {
     match answer {
-        Answer::Accepted => 0,
-        Answer::WrongNodeCount => 1,
-        Answer::WrongRoot => 2,
-        Answer::WrongColumns => 3,
-        Answer::WrongEnds(_) => 4,
-        Answer::WrongOrder(_) => 5,
-        Answer::TreeUnfit(_) => 6,
-        Answer::TooManyRows => 7,
-        Answer::RowNamesNoLink(_) => 8,
-        Answer::RowNamesLinkAgain(_, _) => 9,
-        Answer::AskedNoNode => 10,
-        Answer::AskedUnreached => 11,
-        Answer::ListTooShort => 12,
+        Ok(()) => 0,
+        Err(Refusal::WrongNodeCount) => 1,
+        Err(Refusal::WrongRoot) => 2,
+        Err(Refusal::WrongColumns) => 3,
+        Err(Refusal::WrongEnds(_)) => 4,
+        Err(Refusal::WrongOrder(_)) => 5,
+        Err(Refusal::TreeUnfit(_)) => 6,
+        Err(Refusal::TooManyRows) => 7,
+        Err(Refusal::RowNamesNoLink(_)) => 8,
+        Err(Refusal::RowNamesLinkAgain(_, _)) => 9,
+        Err(Refusal::AskedNoNode) => 10,
+        Err(Refusal::AskedUnreached) => 11,
+        Err(Refusal::ListTooShort) => 12,
     }
 }
 
 // What the refusal carries, and 0 where it carries nothing.
-pub fn value(answer: Answer) -> u16
+pub fn value(answer: Result<(), Refusal>) -> u16
     ensures { result ≡ value_of answer }
 {
     match answer {
-        Answer::Accepted => 0,
-        Answer::WrongNodeCount => 0,
-        Answer::WrongRoot => 0,
-        Answer::WrongColumns => 0,
-        Answer::WrongEnds(link) => link,
-        Answer::WrongOrder(link) => link,
-        Answer::TreeUnfit(node) => node,
-        Answer::TooManyRows => 0,
-        Answer::RowNamesNoLink(row) => row,
-        Answer::RowNamesLinkAgain(row, _) => row,
-        Answer::AskedNoNode => 0,
-        Answer::AskedUnreached => 0,
-        Answer::ListTooShort => 0,
+        Err(Refusal::WrongEnds(link) | Refusal::WrongOrder(link)) => link,
+        Err(Refusal::TreeUnfit(node)) => node,
+        Err(Refusal::RowNamesNoLink(row) | Refusal::RowNamesLinkAgain(row, _)) => row,
+        _ => 0,
     }
 }
 
 // The second value that the refusal carries, and 0 where it carries none.
-pub fn second(answer: Answer) -> u16
+pub fn second(answer: Result<(), Refusal>) -> u16
     ensures { result ≡ second_of answer }
 {
     match answer {
-        Answer::Accepted => 0,
-        Answer::WrongNodeCount => 0,
-        Answer::WrongRoot => 0,
-        Answer::WrongColumns => 0,
-        Answer::WrongEnds(_) => 0,
-        Answer::WrongOrder(_) => 0,
-        Answer::TreeUnfit(_) => 0,
-        Answer::TooManyRows => 0,
-        Answer::RowNamesNoLink(_) => 0,
-        Answer::RowNamesLinkAgain(_, earlier) => earlier,
-        Answer::AskedNoNode => 0,
-        Answer::AskedUnreached => 0,
-        Answer::ListTooShort => 0,
+        Err(Refusal::RowNamesLinkAgain(_, earlier)) => earlier,
+        _ => 0,
     }
 }

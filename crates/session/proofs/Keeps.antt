@@ -11,7 +11,7 @@ use borrow.Author.Tests.{ltb-false}
 use Rattle.rules.specs.Fit.{Rows}
 use Rattle.rules.specs.Tests.{first_below}
 use Rattle.rules.specs.Columns.{Table, table, rows_of, after, most_links, most_rows, most_nodes}
-use Rattle.rules.specs.Refusals.{Verdict, accepted, refused, ◌then◌, when, judge_links, judge_tree, judge_rows, first_bad_row}
+use Rattle.rules.specs.Refusals.{Verdict, accepted, refused, when, judge_links, judge_tree, judge_rows, first_bad_row}
 use Rattle.rules.specs.Jobs.{differs, changed_below}
 use Rattle.rules.specs.declared.Change.{Change as CostChange}
 use Rattle.rules.proofs.Logic.{true_false}
@@ -24,6 +24,8 @@ use Rattle.batch.proofs.Laws.{links_fewer}
 use Rattle.tree.specs.Value.{arrays_of}
 use Rattle.stream.specs.declared.Item.{Item}
 use Rattle.stream.specs.declared.Item.TheVariants.{Network, Link, Change, Apply, Ask, End, UnknownKind, CutShort}
+use denote.Enum.Bare.{sameb}
+use Rattle.order.specs.contracts.Phase.{the_type}
 use Rattle.order.specs.declared.Phase.{Phase}
 use Rattle.order.specs.declared.Phase.TheVariants.{Unread, Linking, Routing}
 use Rattle.order.specs.Order.{is_unread, is_linking, in_order}
@@ -34,7 +36,8 @@ use Rattle.state.specs.declared.Done.{Done}
 use Rattle.state.specs.declared.Out.{Out}
 use Rattle.state.specs.declared.Out.TheVariants.{Nothing}
 use Rattle.state.specs.States.{table_of, waiting, refusing, networked, linked, changing, asked}
-use Rattle.session.specs.Holding.{Columns, TableStands, TreeStands, Lists, lists, table_in, tree_in, lent_in, Holds, unread, linking, routing}
+use Rattle.session.specs.declared.Lists.{Lists}
+use Rattle.session.specs.Holding.{Columns, TableStands, TreeStands, lists, table_in, tree_in, lent_in, Holds, unread, linking, routing}
 use Rattle.session.specs.Steps.{link_verdict, link_lists, change_verdict, change_lists, Begun, Applied, Ready, begins, stays, Steps, out_of_order, unknown, cut, ended, network, link, change, apply, ask}
 use Rattle.session.specs.Parts.{LinkTaken, RowTaken}
 
@@ -49,6 +52,12 @@ pub is_linking_lem : (p : Phase) → is_linking p ≡ true → p ≡ Linking
 is_linking_lem Unread e = absurd (true_false (sym e))
 is_linking_lem Linking e = refl
 is_linking_lem Routing e = absurd (true_false (sym e))
+
+-- what `==` with `Linking` says
+pub linking_same : (p : Phase) → sameb the_type p Linking ≡ is_linking p
+linking_same Unread = refl
+linking_same Linking = refl
+linking_same Routing = refl
 
 pub is_routing : (p : Phase) → is_unread p ≡ false → is_linking p ≡ false → p ≡ Routing
 is_routing Unread e f = absurd (true_false e)
@@ -280,34 +289,36 @@ steps_keep h (ask ready) = routing (ready_phase ready) (met_stands h ready) (len
 both : {s : State} {k : Lists} {item : Item} {d : Done} {l : Lists} → Holds s k → Steps s k item d l → Steps s k item d l × Holds d.state l
 both h a = (a, steps_keep h a)
 
-module _ {s : State} {k : Lists} (h : Holds s k) {item : Item} (ordered : in_order s.phase item ≡ true) where
+-- an item that may come, as the code finds it
+module _ {s : State} {k : Lists} (h : Holds s k) {item : Item} {may : Bool} (judged : may ≡ in_order s.phase item) (come : may ≡ true) where
+  ordered : {i : Item} → item ≡ i → in_order s.phase i ≡ true
+  ordered is = ap (λ (i : Item). in_order s.phase i) (sym is) ∙ sym judged ∙ come
+
   pub steps_network : {nodes root : ℕ} → item ≡ Network nodes root → {r : Done} → r ≡ networked (judge_links (table nodes root [] [] [])) s nodes root
       → Steps s k item r k × Holds r.state k
-  steps_network is e = both h (rw (is, e) (network (is_unread_lem s.phase (ap (λ (i : Item). in_order s.phase i) (sym is) ∙ ordered))))
+  steps_network is e = both h (rw (is, e) (network (is_unread_lem s.phase (ordered is))))
 
   pub link_phase : {start end cost : ℕ} → item ≡ Link start end cost → s.phase ≡ Linking
-  link_phase is = is_linking_lem s.phase (ap (λ (i : Item). in_order s.phase i) (sym is) ∙ ordered)
+  link_phase is = is_linking_lem s.phase (ordered is)
 
-  pub steps_link : {start end cost : ℕ} → item ≡ Link start end cost → {r : Done} {starts ends costs : List ℕ}
-      → LinkTaken s k.starts k.ends k.costs start end cost r starts ends costs
-      → Steps s k item r (lists starts ends costs k.changed k.newcosts k.list) × Holds r.state (lists starts ends costs k.changed k.newcosts k.list)
+  pub steps_link : {start end cost : ℕ} → item ≡ Link start end cost → {r : Done} {l : Lists} → LinkTaken s k start end cost r l
+      → Steps s k item r l × Holds r.state l
   steps_link {start} {end} {cost} is taken =
       let phase = link_phase is in
       let verdict = taken.judged.verdict s.root (take s.links k.ends) (take s.links k.costs) cost (table_of_lem h phase).judged in
-      both h (rw (is, taken.done, taken.starts_now, taken.ends_now, taken.costs_now, verdict) (link phase))
+      both h (rw (is, taken.done, taken.lists_now, verdict) (link phase))
 
   pub not_unread : (i : Item) → item ≡ i → in_order s.phase i ≡ not (is_unread s.phase) → is_unread s.phase ≡ false
-  not_unread i is e = not_true (is_unread s.phase) (sym e ∙ ap (λ (j : Item). in_order s.phase j) (sym is) ∙ ordered)
+  not_unread i is e = not_true (is_unread s.phase) (sym e ∙ ordered is)
 
-  pub steps_change : {named cost : ℕ} → item ≡ Change named cost → {r : State} → Ready s k r → tree_in r k → {d : Done} {changed newcosts : List ℕ}
-      → RowTaken r k.changed k.newcosts named cost d changed newcosts
-      → Steps s k item d (lists k.starts k.ends k.costs changed newcosts k.list) × Holds d.state (lists k.starts k.ends k.costs changed newcosts k.list)
+  pub steps_change : {named cost : ℕ} → item ≡ Change named cost → {r : State} → Ready s k r → tree_in r k → {d : Done} {l : Lists}
+      → RowTaken r k named cost d l → Steps s k item d l × Holds d.state l
   steps_change {named} {cost} is {r} ready t taken =
       let links = length-take-le r.links k.starts (omega (arith, t.few_links, t.columns.starts_long)) in
       let changed_long = length-take-le r.rows k.changed (omega (arith, t.few_rows, (lent_of h).changed_long)) in
       let newcosts_long = length-take-le r.rows k.newcosts (omega (arith, t.few_rows, (lent_of h).newcosts_long)) in
       let verdict = taken.judged.verdict (table_of r k.starts k.ends k.costs) (take r.rows k.newcosts) cost links (omega arith) t.rows_judged in
-      both h (rw (is, taken.done, taken.changed_now, taken.newcosts_now, verdict) (change ready))
+      both h (rw (is, taken.done, taken.lists_now, verdict) (change ready))
 
   pub steps_apply : item ≡ Apply → {r : State} → Ready s k r → {d : Done} {costs list : List ℕ}
       → Applied r k.starts k.ends k.costs k.changed k.newcosts k.list d costs list
@@ -326,9 +337,9 @@ module _ {s : State} {k : Lists} (h : Holds s k) {item : Item} (ordered : in_ord
   pub steps_cut : {place : ℕ} → item ≡ CutShort place → {r : Done} → r ≡ refusing s 22 → Steps s k item r k × Holds r.state k
   steps_cut is e = both h (rw (is, e) cut)
 
-pub steps_disorder : {s : State} {k : Lists} → Holds s k → {item : Item} → in_order s.phase item ≡ false → {r : Done} → r ≡ refusing s 23
+pub steps_disorder : {s : State} {k : Lists} → Holds s k → {item : Item} {may : Bool} → may ≡ in_order s.phase item → may ≡ false → {r : Done} → r ≡ refusing s 23
     → Steps s k item r k × Holds r.state k
-steps_disorder h o e = both h (rw e (out_of_order o))
+steps_disorder h judged not_now e = both h (rw e (out_of_order (sym judged ∙ not_now)))
 
 pub few_nodes : (s : State) (k : Lists) → tree_in s k → s.nodes ≤ most_nodes
 few_nodes s k t = (tree_links (table_of s k.starts k.ends k.costs) (arrays_of s.tree) t.judged).few_nodes

@@ -1,53 +1,31 @@
--- What the parts' answers say of each record. Assumes nothing.
+-- The update by the rows that wait is accepted. Assumes nothing.
 use mathlib.Core.Path.{◌≡◌, refl, sym, ap, ◌∙◌}
 use mathlib.Core.List.{List, ◌++◌}
 use Prim.Native.Nat.{ℕ}
+use Rattle.std.specs.Prelude.{Result, Ok, Err}
+use Rattle.std.specs.Result.{result_unwrap_or}
 use native.Mathlib.Omega.{arith}
 use lib.ListN.{length, take, drop}
 use lib.Seq.{length-take-le, take_at, drop_at}
 use borrow.Author.Tests.{le-ltb}
 use Rattle.rules.specs.Columns.{Table, Arrays, most_rows}
-use Rattle.rules.specs.Refusals.{Values, Verdict, accepted, refused, judge_links, judge_batch, judge_update}
-use Rattle.rules.specs.Answers.{told, number_in, number_of}
-use Rattle.rules.specs.Jobs.{Built, built, not_built, Updated, updated, not_updated}
-use Rattle.rules.specs.declared.Answer.{Answer}
+use Rattle.rules.specs.Refusals.{Verdict, accepted, judge_batch, judge_update}
+use Rattle.rules.specs.Answers.{count_in}
+use Rattle.rules.specs.declared.Refusal.{Refusal}
+use Rattle.rules.specs.Jobs.{Updated, updated, not_updated}
 use Rattle.rules.specs.declared.Change.{Change}
-use Rattle.rules.proofs.OneOutcome.{tree_links, length_applied, number_accepts, number_refuses}
+use Rattle.rules.proofs.OneOutcome.{tree_links, length_applied}
 use Rattle.rules.proofs.Accepted.{update_accept}
 use Rattle.batch.proofs.Laws.{links_fewer}
 use Rattle.tree.specs.Value.{arrays_of}
 use Rattle.state.specs.declared.State.{State}
-use Rattle.state.specs.declared.Done.{Done}
-use Rattle.state.specs.States.{table_of, waiting, refusing}
-use Rattle.session.specs.Holding.{TableStands, Lent, TreeStands}
+use Rattle.state.specs.States.{table_of, waiting}
+use Rattle.session.specs.Holding.{Lent, TreeStands}
 
--- ---- a record that is judged, and refused or done
-
-module _ {s : State} (does : Verdict → Done) (refuses : (number : ℕ) (values : Values) → does (refused number values) ≡ refusing s number) where
-  refusing_is : (v : Verdict) → (v ≡ accepted → ⊥) → refusing s (number_in v) ≡ does v
-  refusing_is accepted n = absurd (n refl)
-  refusing_is (refused number values) n = sym (refuses number values)
-
-  module _ (a : Answer) {number : ℕ} (is : number ≡ number_of a) where
-    pub is_refused_lem : {r : Done} → r ≡ refusing s number → (number ≡ 0 → ⊥) → r ≡ does (told a)
-    is_refused_lem e n = e ∙ ap (refusing s) is ∙ refusing_is (told a) (number_refuses a is n)
-
-    pub is_done : {r : Done} → r ≡ does accepted → number ≡ 0 → r ≡ does (told a)
-    is_done e z = e ∙ ap does (sym (number_accepts a is z))
-
--- ---- the first record after the LINKs
-
-built_verdict : {t : Table} {v : Verdict} {tree : Arrays} → Built t v tree → v ≡ judge_links t
-built_verdict (built e w f) = sym e
-built_verdict (not_built e) = sym e
-
-pub begins : {s : State} {starts ends costs : List ℕ} → TableStands s starts ends costs → {v : Verdict} {tree : Arrays}
-    → Built (table_of s starts ends costs) v tree → Built (table_of s starts ends costs) accepted tree
-begins {s} {starts} {ends} {costs} t {v} {tree} b =
-    let is : v ≡ accepted = built_verdict b ∙ t.judged in
-    rw is at b
-
--- ---- APPLY
+-- the count that an update hands back, 0 where it refuses
+pub counted : (answer : Result ℕ Refusal) → result_unwrap_or answer 0 ≡ count_in answer
+counted (Ok n) = refl
+counted (Err r) = refl
 
 update_verdict : {t : Table} {old new : Arrays} {batch : List Change} {list costs listed : List ℕ} {v : Verdict} {count : ℕ}
     → Updated t old batch list v new costs listed count → v ≡ judge_update t old batch list

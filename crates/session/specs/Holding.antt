@@ -5,6 +5,7 @@ use Rattle.rules.specs.Refusals.{accepted, judge_links, judge_tree, judge_rows}
 use Rattle.order.specs.declared.Phase.TheVariants.{Unread, Linking, Routing}
 use Rattle.tree.specs.Value.{arrays_of}
 use Rattle.state.specs.declared.State.{State}
+use Rattle.session.specs.declared.Lists.{Lists}
 use Rattle.state.specs.States.{table_of, waiting}
 
 -- the lent columns have a place for each link that there can be
@@ -34,15 +35,6 @@ pub record TreeStands (s : State) (starts ends costs changed newcosts : List ℕ
   pub whole : Whole (arrays_of s.tree)
   pub judged : judge_tree (table_of s starts ends costs) (arrays_of s.tree) ≡ accepted
   pub rows_judged : judge_rows (table_of s starts ends costs) (waiting s changed newcosts) ≡ accepted
-
--- what the six lent lists hold
-pub record Lists : Type 0 where
-  pub starts : List ℕ
-  pub ends : List ℕ
-  pub costs : List ℕ
-  pub changed : List ℕ
-  pub newcosts : List ℕ
-  pub list : List ℕ
 
 abbrev pub lists : List ℕ → List ℕ → List ℕ → List ℕ → List ℕ → List ℕ → Lists
 lists starts ends costs changed newcosts list =

@@ -14,7 +14,8 @@ use Rattle.state.specs.declared.Out.TheVariants.{Nothing}
 use Rattle.state.specs.declared.State.{State}
 use Rattle.state.specs.declared.Done.{Done}
 use Rattle.state.specs.States.{table_of, waiting, refusing, networked, linked, changing, begun, applied, asked}
-use Rattle.session.specs.Holding.{Lists, lists, Holds}
+use Rattle.session.specs.declared.Lists.{Lists}
+use Rattle.session.specs.Holding.{lists, Holds}
 
 -- LINK: 3 to 5 of the table with this link as its last, which is written where it is accepted
 abbrev pub link_verdict : State → Lists → ℕ → ℕ → ℕ → Verdict

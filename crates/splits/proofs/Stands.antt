@@ -5,7 +5,7 @@ use Prim.Native.Nat.{ℕ, ◌+◌, ◌≤◌, ◌<◌}
 use native.Mathlib.Omega.{arith}
 use native.Mathlib.Decide.{dec_le, ℕ_discrete}
 use lib.ListN.{length, get_or}
-use Rattle.stream.specs.declared.Body.TheVariants.{Bytes}
+use Rattle.std.specs.Prelude.{Some}
 use Rattle.stream.specs.declared.Item.TheVariants.{Network, Link, Change, Apply, Ask, End, UnknownKind, CutShort}
 use Rattle.stream.specs.declared.Read.{Read}
 use Rattle.stream.specs.Records.{body_length, number_at, read_at}
@@ -52,7 +52,7 @@ module _ (stream : List ℕ) (place : ℕ) where
   pub data StandsStill : Read → Type 0 where
     at_the_end : length stream ≤ place → StandsStill (record { item = End; next = place })
     unknown : place < length stream → NoKind kind_at → StandsStill (record { item = UnknownKind place; next = place })
-    cut : {n : ℕ} → place < length stream → body_length kind_at ≡ Bytes n → length stream < place + 1 + n
+    cut : {n : ℕ} → place < length stream → body_length kind_at ≡ Some n → length stream < place + 1 + n
         → StandsStill (record { item = CutShort place; next = place })
     a_network : kind_at ≡ 1 → place + 1 + 4 ≤ length stream → StandsStill (record { item = Network first second; next = place + 1 + 4 })
     a_link : kind_at ≡ 2 → place + 1 + 6 ≤ length stream → StandsStill (record { item = Link first second third; next = place + 1 + 6 })
@@ -75,7 +75,7 @@ module _ (stream : List ℕ) (place : ℕ) where
   there s = subst StandsStill (stands_only s) s
 
   -- of a known kind: the body is whole, or it is cut short
-  of_length : place < length stream → {n : ℕ} → body_length kind_at ≡ Bytes n
+  of_length : place < length stream → {n : ℕ} → body_length kind_at ≡ Some n
       → {read : Read} → (place + 1 + n ≤ length stream → StandsStill read) → StandsStill (read_at stream place)
   of_length l {n} known {read} whole = at (dec_le (place + 1 + n) (length stream))
     where

@@ -35,6 +35,8 @@ pub enum Out {
     Changed {
         count: usize,
     },
+    // The scope's number, and no enum: `networked`, `linked` and `changing` (specs/States.antt) hand on the number of a verdict,
+    // whatever it is, and the theorems of `outcomes` speak of it.
     Refused {
         number: u16,
     },
@@ -51,14 +53,13 @@ impl State {
     pub fn start() -> State
         ensures { result ≡ unread }
     {
-        let tree = Tree::empty();
         State {
             phase: Phase::Unread,
             nodes: 0,
             root: 0,
             links: 0,
             rows: 0,
-            tree: tree,
+            tree: Tree::empty(),
         }
     }
 
@@ -68,7 +69,7 @@ impl State {
     {
         Done {
             state: self,
-            out: Out::Refused { number: number },
+            out: Out::Refused { number },
         }
     }
 
@@ -76,15 +77,14 @@ impl State {
     pub fn network(self, nodes: usize, root: usize) -> Done
         ensures { result ≡ networked accepted self nodes root }
     {
-        let tree = self.tree;
         Done {
             state: State {
                 phase: Phase::Linking,
-                nodes: nodes,
-                root: root,
+                nodes,
+                root,
                 links: 0,
                 rows: 0,
-                tree: tree,
+                ..self
             },
             out: Out::Nothing,
         }
@@ -95,7 +95,7 @@ impl State {
         requires { self.links < 4096 }
         ensures { result ≡ linked accepted self }
     {
-        self.links = self.links + 1;
+        self.links += 1;
         Done {
             state: self,
             out: Out::Nothing,
@@ -107,7 +107,7 @@ impl State {
         requires { self.rows < 256 }
         ensures { result ≡ changing accepted self }
     {
-        self.rows = self.rows + 1;
+        self.rows += 1;
         Done {
             state: self,
             out: Out::Nothing,
@@ -120,11 +120,8 @@ impl State {
     {
         State {
             phase: Phase::Routing,
-            nodes: self.nodes,
-            root: self.root,
-            links: self.links,
-            rows: self.rows,
-            tree: tree,
+            tree,
+            ..self
         }
     }
 
@@ -136,7 +133,7 @@ impl State {
         self.rows = 0;
         Done {
             state: self,
-            out: Out::Changed { count: count },
+            out: Out::Changed { count },
         }
     }
 
@@ -149,48 +146,12 @@ impl State {
         if self.nodes <= place {
             return Out::Refused { number: 10 };
         }
-        let tree = self.tree;
         Out::Row {
-            node: node,
-            dist: tree.dist[place],
-            parent: tree.parent[place],
-            first: tree.first[place],
+            node,
+            dist: self.tree.dist[place],
+            parent: self.tree.parent[place],
+            first: self.tree.first[place],
         }
-    }
-}
-
-fn is_record(item: Item) -> bool
-    ensures { result ≡ is_record item }
-{
-    match item {
-        Item::Network { nodes: _, root: _ } => true,
-        Item::Link {
-            start: _,
-            end: _,
-            cost: _,
-        } => true,
-        Item::Change { link: _, cost: _ } => true,
-        Item::Apply => true,
-        Item::Ask { node: _ } => true,
-        Item::End => false,
-        Item::UnknownKind(_) => false,
-        Item::CutShort(_) => false,
-    }
-}
-
-fn is_refusal(out: Out) -> bool
-    ensures { result ≡ is_refusal out }
-{
-    match out {
-        Out::Nothing => false,
-        Out::Row {
-            node: _,
-            dist: _,
-            parent: _,
-            first: _,
-        } => false,
-        Out::Changed { count: _ } => false,
-        Out::Refused { number: _ } => true,
     }
 }
 
@@ -198,5 +159,7 @@ fn is_refusal(out: Out) -> bool
 pub fn goes_on(item: Item, out: Out) -> bool
     ensures { result ≡ goes_on item out }
 {
-    is_record(item) && !is_refusal(out)
+    let ends = matches!(item, Item::End | Item::UnknownKind(_) | Item::CutShort(_));
+    let refuses = matches!(out, Out::Refused { .. });
+    !ends && !refuses
 }

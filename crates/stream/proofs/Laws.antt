@@ -8,10 +8,9 @@ use native.Mathlib.Decide.{ℕ_discrete}
 use lib.Dec.{eqb, leb}
 use borrow.Author.Tests.{ne_eqb, le-leb, lt-leb}
 use lib.ListN.{length, get_or}
-use Rattle.stream.specs.declared.Body.TheVariants.{Bytes, Unknown}
+use Rattle.std.specs.Prelude.{Option, None, Some}
 use Rattle.stream.specs.declared.Item.{Item}
 use Rattle.stream.specs.declared.Item.TheVariants.{Network, Link, Change, Apply, Ask, End, UnknownKind, CutShort}
-use Rattle.stream.specs.declared.Body.{Body}
 use Rattle.stream.specs.declared.Read.{Read}
 use Rattle.stream.specs.Records.{body_length, bytes_in, number_at, numbers_at, Told, given, ended, refused, told, told_body, told_at, next_by, record_at, stands, read_body, read_at, GivenAt}
 
@@ -29,7 +28,7 @@ no_kind rest =
     record { not_network = rest.0.0.0.0.1; not_link = rest.0.0.0.1; not_change = rest.0.0.1; not_apply = rest.0.1; not_ask = rest.1 }
 
 module _ {kind : ℕ} (none : NoKind kind) where
-  pub no_length : Unknown ≡ body_length kind
+  pub no_length : None ≡ body_length kind
   no_length =
       simp (ne_eqb kind 1 none.not_network, ne_eqb kind 2 none.not_link, ne_eqb kind 3 none.not_change, ne_eqb kind 4 none.not_apply, ne_eqb kind 5 none.not_ask)
 
@@ -45,11 +44,11 @@ module _ (stream : List ℕ) (place : ℕ) where
   reads_end past = rw (le-leb (length stream) place past)
 
   module _ (inside : place < length stream) where
-    pub reads_unknown : body_length (get_or stream place 0) ≡ Unknown → stands (UnknownKind place) place ≡ read_at stream place
+    pub reads_unknown : body_length (get_or stream place 0) ≡ None → stands (UnknownKind place) place ≡ read_at stream place
     unfolding read_at
     reads_unknown none = rw (lt-leb (length stream) place inside, none)
 
-    module _ {n : ℕ} (known : body_length (get_or stream place 0) ≡ Bytes n) where
+    module _ {n : ℕ} (known : body_length (get_or stream place 0) ≡ Some n) where
       pub reads_cut : length stream < place + 1 + n → stands (CutShort place) place ≡ read_at stream place
       unfolding read_at
       reads_cut cut = rw (lt-leb (length stream) place inside, known, lt-leb (place + 1 + n) (length stream) cut)
@@ -59,7 +58,7 @@ module _ (stream : List ℕ) (place : ℕ) where
       unfolding read_at
       reads_record whole = rw (lt-leb (length stream) place inside, known, le-leb (place + 1 + n) (length stream) whole)
 
-no_bytes : {n : ℕ} → Bytes n ≡ Unknown → ⊥
+no_bytes : {n : ℕ} → Some n ≡ None → ⊥
 no_bytes e = let z : ◌≡◌ {A = ℕ} 0 1 = cc in omega arith
 
 -- ---- what is read tells what 01 says
@@ -72,7 +71,7 @@ module _ (stream : List ℕ) (place : ℕ) where
   two_on = omega arith
 
   -- a record tells its kind, and the numbers of its body
-  record_tells : (kind n : ℕ) → body_length kind ≡ Bytes n → told (record_at kind stream place) ≡ given kind (numbers_at stream (place + 1) (n / 2))
+  record_tells : (kind n : ℕ) → body_length kind ≡ Some n → told (record_at kind stream place) ≡ given kind (numbers_at stream (place + 1) (n / 2))
   record_tells kind n e = at (ℕ_discrete kind 1) (ℕ_discrete kind 2) (ℕ_discrete kind 3) (ℕ_discrete kind 4) (ℕ_discrete kind 5)
     where
       long : {k : ℕ} → kind ≡ k → n ≡ bytes_in (body_length k)
@@ -93,13 +92,13 @@ module _ (stream : List ℕ) (place : ℕ) where
   abbrev Agrees : Read → Told → Type 0
   Agrees read t = (told read.item ≡ t) × (read.next ≡ next_by t place)
 
-  body_agrees : (b : Body) → body_length (get_or stream place 0) ≡ b → Agrees (read_body b stream place) (told_body b stream place)
-  body_agrees Unknown e = (refl, refl)
-  body_agrees (Bytes n) e = at (leb (place + 1 + n) (length stream))
+  body_agrees : (b : Option ℕ) → body_length (get_or stream place 0) ≡ b → Agrees (read_body b stream place) (told_body b stream place)
+  body_agrees None e = (refl, refl)
+  body_agrees (Some n) e = at (leb (place + 1 + n) (length stream))
     where
       at : (whole : Bool) → Agrees (cond whole (record { item = record_at (get_or stream place 0) stream place; next = place + 1 + n }) (stands (CutShort place) place))
           (cond whole (given (get_or stream place 0) (numbers_at stream (place + 1) (n / 2))) (refused 22 place))
-      at true = (record_tells (get_or stream place 0) n e, ap (λ (b : Body). place + 1 + bytes_in b) (sym e))
+      at true = (record_tells (get_or stream place 0) n e, ap (λ (b : Option ℕ). place + 1 + bytes_in b) (sym e))
       at false = (refl, refl)
 
   agrees : Agrees (read_at stream place) (told_at stream place)

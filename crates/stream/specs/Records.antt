@@ -1,24 +1,22 @@
 -- The record stream, as the scope says it: one byte of kind, then a body whose length the kind fixes. A stream is
 -- the list of its bytes. Assumes nothing.
-use Rattle.std.specs.Prelude.{ℕ, zero, suc, ◌+◌, ◌*◌, ◌/◌, ◌≡◌, List, [], ◌∷◌, Bool, true, false, cond, eqb, leb, length, get_or}
-use Rattle.stream.specs.declared.Body.{Body}
-use Rattle.stream.specs.declared.Body.TheVariants.{Bytes, Unknown}
+use Rattle.std.specs.Prelude.{Option, None, Some, ℕ, zero, suc, ◌+◌, ◌*◌, ◌/◌, ◌≡◌, List, [], ◌∷◌, Bool, true, false, cond, eqb, leb, length, get_or}
 use Rattle.stream.specs.declared.Item.{Item}
 use Rattle.stream.specs.declared.Item.TheVariants.{Network, Link, Change, Apply, Ask, End, UnknownKind, CutShort}
 use Rattle.stream.specs.declared.Read.{Read}
 
--- the length of a kind's body
-abbrev pub body_length : ℕ → Body
+-- the length of a kind's body, where the kind is known
+abbrev pub body_length : ℕ → Option ℕ
 body_length kind =
-    cond (eqb kind 1) (Bytes 4)
-    (cond (eqb kind 2) (Bytes 6)
-    (cond (eqb kind 3) (Bytes 4)
-    (cond (eqb kind 4) (Bytes 0)
-    (cond (eqb kind 5) (Bytes 2) Unknown))))
+    cond (eqb kind 1) (Some 4)
+    (cond (eqb kind 2) (Some 6)
+    (cond (eqb kind 3) (Some 4)
+    (cond (eqb kind 4) (Some 0)
+    (cond (eqb kind 5) (Some 2) None))))
 
-abbrev pub bytes_in : Body → ℕ
-bytes_in (Bytes n) = n
-bytes_in Unknown = 0
+abbrev pub bytes_in : Option ℕ → ℕ
+bytes_in (Some n) = n
+bytes_in None = 0
 
 -- numbers are 16 bits, high byte first
 abbrev pub number_at : List ℕ → ℕ → ℕ
@@ -37,9 +35,9 @@ numbers_at stream place zero = []
 numbers_at stream place (suc n) = number_at stream place ∷ numbers_at stream (place + 2) n
 
 -- inside the stream: an unknown kind, a body cut short, or a record
-abbrev pub told_body : Body → List ℕ → ℕ → Told
-told_body Unknown stream place = refused 21 place
-told_body (Bytes n) stream place =
+abbrev pub told_body : Option ℕ → List ℕ → ℕ → Told
+told_body None stream place = refused 21 place
+told_body (Some n) stream place =
     cond (leb (place + 1 + n) (length stream)) (given (get_or stream place 0) (numbers_at stream (place + 1) (n / 2))) (refused 22 place)
 
 -- at or past the end, the end
@@ -102,9 +100,9 @@ abbrev pub stands : Item → ℕ → Read
 stands item place = record { item = item; next = place }
 
 -- inside the stream: an unknown kind, a body cut short, or a record
-abbrev pub read_body : Body → List ℕ → ℕ → Read
-read_body Unknown stream place = stands (UnknownKind place) place
-read_body (Bytes n) stream place =
+abbrev pub read_body : Option ℕ → List ℕ → ℕ → Read
+read_body None stream place = stands (UnknownKind place) place
+read_body (Some n) stream place =
     cond (leb (place + 1 + n) (length stream))
     (record { item = record_at (get_or stream place 0) stream place; next = place + 1 + n })
     (stands (CutShort place) place)

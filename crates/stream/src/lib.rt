@@ -1,7 +1,7 @@
 // The reader of the record stream: what stands at a place of a lent stream, and the place after it.
 #![tactic(auto)]
 
-ghost use Rattle.std.specs.Prelude.{◌≡◌, ◌+◌, ◌*◌, ◌≤◌, length};
+ghost use Rattle.std.specs.Prelude.{◌≡◌, ◌+◌, ◌≤◌, length};
 ghost use Rattle.stream.specs.Records.{body_length, bytes_in, number_at, number_of, record_at, stands, GivenAt};
 
 // What stands at a place: a record, the end, or a refusal with the place of its kind byte.
@@ -24,30 +24,18 @@ pub struct Read {
     pub next: usize,
 }
 
-// How long the body of a record is, or that no record has that kind.
-#[derive(Clone, Copy)]
-pub enum Body {
-    Bytes(usize),
-    Unknown,
-}
-
-fn body_length(kind: u8) -> Body
+// How long the body of a record is, where a record has that kind.
+fn body_length(kind: u8) -> Option<usize>
     ensures { result ≡ body_length kind }
 {
+    // The scope wants ranges for the kinds, so the last arm is no `_`.
     match kind {
-        1 => Body::Bytes(4),
-        2 => Body::Bytes(6),
-        3 => Body::Bytes(4),
-        4 => Body::Bytes(0),
-        5 => Body::Bytes(2),
-        0 | 6..=255 => Body::Unknown,
+        1 | 3 => Some(4),
+        2 => Some(6),
+        4 => Some(0),
+        5 => Some(2),
+        0 | 6..=255 => None,
     }
-}
-
-fn joined(high: u8, low: u8) -> u16
-    ensures { result ≡ high * 256 + low }
-{
-    high as u16 * 256 + low as u16
 }
 
 // The number whose two bytes start at a place, high byte first.
@@ -55,7 +43,7 @@ fn number_at(stream: &[u8], place: usize) -> u16
     requires { place + 2 ≤ length stream.now }
     ensures { result ≡ number_at stream.now place }
 {
-    joined(stream[place], stream[place + 1])
+    u16::from_be_bytes([stream[place], stream[place + 1]])
 }
 
 // The record of a kind whose kind byte stands at a place and whose body is whole.
@@ -81,7 +69,7 @@ fn record_at(kind: u8, stream: &[u8], place: usize) -> Item
         5 => Item::Ask {
             node: number_at(stream, place + 1),
         },
-        0 | 6..=255 => Item::UnknownKind(place),
+        _ => Item::UnknownKind(place),
     }
 }
 
@@ -100,7 +88,7 @@ pub fn read_at(stream: &[u8], place: usize) -> Read
     }
     let kind = stream[place];
     let body = place + 1;
-    let Body::Bytes(length) = body_length(kind) else {
+    let Some(length) = body_length(kind) else {
         return stay(Item::UnknownKind(place), place);
     };
     if stream.len() - body < length {
@@ -118,17 +106,8 @@ pub fn number(item: Item) -> u16
     ensures { result ≡ number_of item }
 {
     match item {
-        Item::Network { nodes: _, root: _ } => 0,
-        Item::Link {
-            start: _,
-            end: _,
-            cost: _,
-        } => 0,
-        Item::Change { link: _, cost: _ } => 0,
-        Item::Apply => 0,
-        Item::Ask { node: _ } => 0,
-        Item::End => 0,
         Item::UnknownKind(_) => 21,
         Item::CutShort(_) => 22,
+        _ => 0,
     }
 }

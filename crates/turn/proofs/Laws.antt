@@ -20,7 +20,8 @@ use Rattle.state.specs.declared.Out.TheVariants.{Nothing, Row, Changed, Refused}
 use Rattle.state.specs.declared.State.{State}
 use Rattle.state.specs.declared.Done.{Done}
 use Rattle.state.specs.States.{networked, linked, changing, goes_on}
-use Rattle.session.specs.Holding.{Lists, Holds}
+use Rattle.session.specs.declared.Lists.{Lists}
+use Rattle.session.specs.Holding.{Holds}
 use Rattle.session.specs.Steps.{link_verdict, change_verdict, Applied, Steps, out_of_order, unknown, cut, ended, network, link, change, apply, ask}
 use Rattle.session.proofs.Keeps.{lent_of}
 use Rattle.words.specs.Putting.{Put}

@@ -7,7 +7,8 @@ use Rattle.state.specs.declared.Out.TheVariants.{Nothing, Row, Changed, Refused}
 use Rattle.state.specs.declared.State.{State}
 use Rattle.state.specs.declared.Done.{Done}
 use Rattle.state.specs.States.{goes_on}
-use Rattle.session.specs.Holding.{Lists, Holds}
+use Rattle.session.specs.declared.Lists.{Lists}
+use Rattle.session.specs.Holding.{Holds}
 use Rattle.session.specs.Steps.{Steps}
 use Rattle.lines.specs.Lines.{line_of, refusal_line}
 use Rattle.words.specs.Putting.{Put}

@@ -1,16 +1,14 @@
 -- Turn after turn: what they told stands at the front of the text, and what is left to read falls. Assumes nothing.
-use mathlib.Core.Path.{◌≡◌, refl, sym, ap, ◌∙◌}
+use mathlib.Core.Path.{◌≡◌, refl}
 use mathlib.Core.Bool.{Bool, true, false, cond}
 use mathlib.Core.List.{List, [], ◌++◌}
 use Prim.Native.Nat.{ℕ, suc, ◌+◌, ◌-◌, ◌≤◌, ◌<◌}
 use native.Mathlib.Omega.{arith}
-use borrow.Author.Tests.{leb-false}
-use lib.Dec.{leb}
 use lib.ListN.{length}
-use Rattle.splits.proofs.Splits.{Moves, both}
+use Rattle.splits.proofs.Splits.{Moves}
 use Rattle.state.specs.declared.State.{State}
-use Rattle.session.specs.Holding.{Lists, Holds}
-use Rattle.session.proofs.Keeps.{columns_of, lent_of}
+use Rattle.session.specs.declared.Lists.{Lists}
+use Rattle.session.specs.Holding.{Holds}
 use Rattle.words.specs.Putting.{Put}
 use Rattle.words.proofs.Laws.{put_none, put_then, put_length}
 use Rattle.lines.specs.Lines.{line_room}
@@ -18,16 +16,6 @@ use Rattle.turn.specs.declared.Turn.{Turn}
 use Rattle.turn.specs.Turns.{Turned}
 use Rattle.turns.specs.Filling.{Tells, none, then, Part, Filled}
 use Rattle.turns.proofs.Moves.{moves_on, tells_moves}
-
--- the lent lists and the text keep their lengths
-pub record Kept (k after : Lists) (before text : List ℕ) : Type 0 where
-  pub starts_kept : length after.starts ≡ length k.starts
-  pub ends_kept : length after.ends ≡ length k.ends
-  pub costs_kept : length after.costs ≡ length k.costs
-  pub changed_kept : length after.changed ≡ length k.changed
-  pub newcosts_kept : length after.newcosts ≡ length k.newcosts
-  pub list_kept : length after.list ≡ length k.list
-  pub text_kept : length text ≡ length before
 
 -- what the turns told stands at the front of the text, and what holds between records holds again
 record Told (stream : List ℕ) (place : ℕ) (s : State) (k : Lists) (before : List ℕ) (r : Turn) (after : Lists) (text : List ℕ) : Type 0 where
@@ -53,29 +41,6 @@ module _ {stream : List ℕ} {place : ℕ} {s : State} {k : Lists} {before : Lis
       record { turns = suc b.turns; told = b.earlier ++ b.line; tells = then b.tells b.last; put = b.put; holds = b.holds }
 
   module _ {turn : Turn} {after : Lists} {text : List ℕ} (filling : Filling stream place s k before turn after text) where
-    pub filling_kept : Holds s k → Kept k after before text
-    filling_kept holds =
-        let now = told filling in
-        let old = columns_of holds in
-        let new = columns_of now.holds in
-        let lent = lent_of holds in
-        let same = lent_of now.holds in
-        record {
-          starts_kept = new.starts_long ∙ sym old.starts_long;
-          ends_kept = new.ends_long ∙ sym old.ends_long;
-          costs_kept = new.costs_long ∙ sym old.costs_long;
-          changed_kept = same.changed_long ∙ sym lent.changed_long;
-          newcosts_kept = same.newcosts_long ∙ sym lent.newcosts_long;
-          list_kept = same.list_long ∙ sym lent.list_long;
-          text_kept = put_length now.put;
-        }
-
-    pub filling_holds : Holds turn.state after
-    filling_holds = (told filling).holds
-
-    pub filling_end : turn.end ≤ length text
-    filling_end = let put = (told filling).put in omega (arith, put.ends, put.room.fits, put_length put)
-
     pub filling_more : {next : Turn} {afterwards : Lists} {more : List ℕ} → turn.more ≡ true → turn.end + line_room ≤ length text
         → Turned stream turn.next turn.state after text turn.end next afterwards more → Filling stream place s k before next afterwards more
     filling_more goes room turned =
@@ -94,16 +59,6 @@ module _ {stream : List ℕ} {place : ℕ} {s : State} {k : Lists} {before : Lis
           holds = turned.holds;
         })
 
-  pub filled_ended : {turn : Turn} {after : Lists} {text : List ℕ} → Filling stream place s k before turn after text → turn.more ≡ false
-      → Filled stream place s k before turn after text
-  filled_ended (empty e f g holds) ends = absurd (both (ap (λ (turn : Turn). turn.more) e) ends)
-  filled_ended (begun b) ends = record { part = b; full = λ goes. absurd (both goes ends) }
-
-  pub filled_full : {turn : Turn} {after : Lists} {text : List ℕ} → Filling stream place s k before turn after text → line_room ≤ length before
-      → leb (turn.end + line_room) (length text) ≡ false → Filled stream place s k before turn after text
-  filled_full {turn} {text = text} (empty e f g holds) room full = absurd (omega (arith, leb-false (turn.end + line_room) (length text) full, ap length g, ap (λ (turn : Turn). turn.end) e))
-  filled_full {turn} {text = text} (begun b) room full = record { part = b; full = λ goes. omega (arith, leb-false (turn.end + line_room) (length text) full, put_length b.put) }
-
 -- what is left to read, 0 where there is no more
 abbrev pub left : List ℕ → ℕ → Bool → ℕ
 left stream place goes = cond goes (length stream - place + 1) 0
@@ -119,7 +74,3 @@ turn_less {next = next} e turned = rw e (left_falls next.more (moves_on turned.t
 pub filled_less : {stream : List ℕ} {place : ℕ} {s : State} {k after : Lists} {before text : List ℕ} {turn : Turn} {goes : Bool} → goes ≡ true
     → Filled stream place s k before turn after text → left stream turn.next turn.more < left stream place goes
 filled_less {turn = turn} e filled = rw e (left_falls turn.more (λ goes. tells_moves (then filled.part.tells filled.part.last) goes (omega arith)))
-
-pub part_end : {stream : List ℕ} {place : ℕ} {s : State} {k after : Lists} {before text : List ℕ} {turn : Turn} → Part stream place s k before turn after text
-    → turn.end ≤ length text
-part_end f = omega (arith, f.put.ends, f.put.room.fits, put_length f.put)

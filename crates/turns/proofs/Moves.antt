@@ -9,7 +9,7 @@ use Rattle.stream.specs.Records.{read_at, is_record}
 use Rattle.splits.proofs.Stands.{standing}
 use Rattle.splits.proofs.Splits.{both, Moves, moves}
 use Rattle.state.specs.declared.State.{State}
-use Rattle.session.specs.Holding.{Lists}
+use Rattle.session.specs.declared.Lists.{Lists}
 use Rattle.turn.specs.Turns.{Turns, too_long, reads}
 use Rattle.turns.specs.Filling.{Tells, none, then}
 

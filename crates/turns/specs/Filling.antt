@@ -1,7 +1,8 @@
 -- Turn after turn, from a place of a stream on, and a text filled with their lines. Assumes nothing.
 use Rattle.std.specs.Prelude.{ℕ, zero, suc, ◌+◌, ◌≤◌, ◌<◌, ◌≡◌, Bool, true, List, [], ◌++◌, length}
 use Rattle.state.specs.declared.State.{State}
-use Rattle.session.specs.Holding.{Lists, Holds}
+use Rattle.session.specs.declared.Lists.{Lists}
+use Rattle.session.specs.Holding.{Holds}
 use Rattle.lines.specs.Lines.{line_room}
 use Rattle.words.specs.Putting.{Put}
 use Rattle.turn.specs.declared.Turn.{Turn}

@@ -1,93 +1,69 @@
-// Update, over a lent table and lent arrays.
+// Update, over a lent table and lent arrays. These three stay three parameters wherever they are written: what they hold
+// when a struct of three `&mut` arrays ends isn't known to the proof.
 #![tactic(auto)]
 
 ghost use Rattle.std.specs.Prelude.{◌≡◌};
-ghost use Rattle.rules.specs.Answers.{told};
-ghost use Rattle.rules.specs.Columns.{Whole, table, arrays};
+ghost use Rattle.rules.specs.Answers.{told, count_in};
+ghost use Rattle.rules.specs.Columns.{arrays};
+ghost use Rattle.rules.specs.Lent.{table_of};
 ghost use Rattle.rules.specs.Jobs.{Updated};
 ghost use Rattle.rules.specs.Refusals.{accepted, judge_update};
-ghost use Rattle.batch.specs.Rows.{rows_of_columns};
+ghost use Rattle.batch.specs.Rows.{rows_of};
 
-use rules::Answer;
+use batch::Columns;
+use rules::{Arrays, Links, Refusal};
 
 // An accepted batch: its costs are written, the next tree is grown from the old one, and the changed nodes are listed and
 // counted. For that the old rows are kept beside.
 fn apply(
-    nodes: usize,
-    root: usize,
-    starts: &[u16],
-    ends: &[u16],
+    links: &Links,
     costs: &mut [u16],
-    changed: &[u16],
-    newcosts: &[u16],
+    batch: &Columns,
     dist: &mut [u32; 256],
     parent: &mut [u16; 256],
     first: &mut [u16; 256],
     list: &mut [u16],
 ) -> usize
-    requires { (judge_update (table nodes root starts.now ends.now costs.old) (arrays dist.old parent.old first.old) (rows_of_columns changed.now newcosts.now) list.old ≡ accepted) × Whole (arrays dist.old parent.old first.old) }
-    ensures { Updated (table nodes root starts.now ends.now costs.old) (arrays dist.old parent.old first.old) (rows_of_columns changed.now newcosts.now) list.old accepted (arrays dist.new parent.new first.new) costs.new list.new result }
+    requires { judge_update (table_of links.now costs.old) (arrays dist.old parent.old first.old) (rows_of batch.now) list.old ≡ accepted }
+    ensures { Updated (table_of links.now costs.old) (arrays dist.old parent.old first.old) (rows_of batch.now) list.old accepted (arrays dist.new parent.new first.new) costs.new list.new result }
 {
     let old_dist = *dist;
     let old_parent = *parent;
     let old_first = *first;
-    batch::write_costs(changed, newcosts, costs);
-    let rows = batch::row_count(changed, newcosts);
-    let none = [0u32; 0];
-    let profile = rules::narrow();
-    grow::regrow(
-        profile,
-        nodes,
-        root,
-        starts,
-        ends,
-        costs,
-        &none,
-        &changed[..rows],
+    let old = Arrays {
+        dist: &old_dist,
+        parent: &old_parent,
+        first: &old_first,
+    };
+    batch::write_costs(batch, costs);
+    let table = links::judged(links, costs);
+    grow::regrow(&table, &batch.links[..batch.len()], dist, parent, first);
+    let new = Arrays {
         dist,
         parent,
         first,
-    );
-    changed::list_changed(
-        nodes,
-        &old_dist,
-        &old_parent,
-        &old_first,
-        dist,
-        parent,
-        first,
-        list,
-    )
+    };
+    changed::list_changed(links.nodes, &old, &new, list)
 }
 
-// Refusals 1 to 9 and 12. An accepted batch writes its costs and lists the changed nodes; a refused one leaves tree, costs
-// and list as they came.
+// Refusals 1 to 9 and 12. An accepted batch writes its costs and lists the changed nodes, which are counted; a refused one
+// leaves tree, costs and list as they came.
 pub fn update(
-    nodes: usize,
-    root: usize,
-    starts: &[u16],
-    ends: &[u16],
+    links: &Links,
     costs: &mut [u16],
-    changed: &[u16],
-    newcosts: &[u16],
+    batch: &Columns,
     dist: &mut [u32; 256],
     parent: &mut [u16; 256],
     first: &mut [u16; 256],
     list: &mut [u16],
-    count: &mut usize,
-) -> Answer
-    ensures { Updated (table nodes root starts.now ends.now costs.old) (arrays dist.old parent.old first.old) (rows_of_columns changed.now newcosts.now) list.old (told result) (arrays dist.new parent.new first.new) costs.new list.new count.new }
+) -> Result<usize, Refusal>
+    ensures { Updated (table_of links.now costs.old) (arrays dist.old parent.old first.old) (rows_of batch.now) list.old (told result) (arrays dist.new parent.new first.new) costs.new list.new (count_in result) }
 {
-    let answer = judge::judge_update(
-        nodes, root, starts, ends, costs, dist, parent, first, changed, newcosts, list,
-    );
-    if rules::number(answer) != 0 {
-        *count = 0;
-        return answer;
-    }
-    let nodes_changed = apply(
-        nodes, root, starts, ends, costs, changed, newcosts, dist, parent, first, list,
-    );
-    *count = nodes_changed;
-    answer
+    let tree = Arrays {
+        dist,
+        parent,
+        first,
+    };
+    judge::judge_update(links, costs, &tree, batch, list)?;
+    Ok(apply(links, costs, batch, dist, parent, first, list))
 }

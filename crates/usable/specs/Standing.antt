@@ -1,16 +1,17 @@
--- The table and the network that stand in lent columns. In a contract `x.now` is what a lent column holds, and of one that
--- the call writes `x.old` is what it held when the call began and `x.new` what it holds after it. Assumes nothing.
+-- The table and the network that stand in lent columns. Assumes nothing.
 use Rattle.std.specs.Prelude.{List, ℕ, get_or}
 use Rattle.rules.specs.Net.{Net}
-use Rattle.rules.specs.Columns.{Table, table, net_in, no_link}
+use Rattle.rules.specs.Columns.{table, net_in, no_link}
+use Rattle.rules.specs.Columns as columns
 use Rattle.rules.specs.declared.Profile.{Profile}
 use Rattle.costs.specs.Costs.{costs_of}
+use Rattle.usable.specs.declared.Table.{Table}
 
-abbrev pub table_at : ℕ → ℕ → List ℕ → List ℕ → List ℕ → List ℕ → Table
-table_at nodes root starts ends narrow wide = table nodes root starts ends (costs_of narrow wide)
+abbrev pub table_at : Table → columns.Table
+table_at t = table t.nodes t.root t.starts.now t.ends.now (costs_of t.costs)
 
-abbrev pub net_at : Profile → ℕ → ℕ → List ℕ → List ℕ → List ℕ → List ℕ → Net
-net_at profile nodes root starts ends narrow wide = net_in profile (table_at nodes root starts ends narrow wide)
+abbrev pub net_at : Table → Net
+net_at t = net_in t.profile (table_at t)
 
 -- the distances alone, and the first links
 abbrev pub dist_in : Profile → List ℕ → ℕ → ℕ

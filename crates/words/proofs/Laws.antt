@@ -6,12 +6,11 @@ use Prim.Native.Nat.{ℕ, zero, suc, ◌+◌, ◌≤◌, ◌<◌, ◌/◌, ◌%�
 use native.Mathlib.Omega.{arith}
 use native.Mathlib.Decide.{dec_lt}
 use native.Mathlib.Nat.{add-zero}
-use native.Mathlib.Numerals.{add-one}
-use borrow.Author.Tests.{lt-ltb, le-ltb, eq-eqb, ne_eqb}
-use lib.ListN.{length, take, drop, set, length-append, length-drop, take-append-drop}
-use lib.Seq.{set_split, take_at, drop-append-add, drop-drop, length-take-le}
+use borrow.Author.Tests.{lt-ltb, le-ltb, ne_eqb}
+use lib.ListN.{length, take, drop, length-append, length-drop, take-append-drop}
+use lib.Seq.{take_at, drop-append-add, drop-drop, length-take-le}
 use Rattle.rules.specs.Columns.{no_link}
-use Rattle.words.specs.Words.{decimal_in, decimal, digit, dash, link_text}
+use Rattle.words.specs.Words.{decimal_in, decimal, digit, link_text}
 use Rattle.words.specs.Putting.{Room, Put}
 
 -- ---- putting
@@ -21,13 +20,6 @@ put_none text at l = record {
   room = record { fits = omega arith };
   text = rw (add-zero at, take-append-drop at text);
   ends = omega arith;
-}
-
-pub put_one : {text : List ℕ} {at byte : ℕ} → Room text at (byte ∷ []) → Put text at (byte ∷ []) (set text at byte) (at + 1)
-put_one {text} {at} {byte} r = record {
-  room = r;
-  text = rw (set_split text at byte (omega (arith, r.fits)), add-one at);
-  ends = refl;
 }
 
 drop_past : (p q : List ℕ) (n m : ℕ) → length p ≡ n → drop (n + m) (p ++ q) ≡ drop m q
@@ -105,9 +97,6 @@ unfolding decimal decimal_in
 more_digits n l =
     ap (λ (b : Bool). cond b (digit n ∷ []) (decimal_in n (n / 10) ++ (digit (n % 10) ∷ []))) (le-ltb n 10 l)
     ∙ ap (λ (front : List ℕ). front ++ (digit (n % 10) ∷ [])) (enough n (suc (n / 10)) (n / 10) (omega arith) (omega arith))
-
-pub link_none : {link : ℕ} → link ≡ no_link → link_text link ≡ dash ∷ []
-link_none {link} e = rw (eq-eqb link no_link e) refl
 
 pub link_some : {link : ℕ} → (link ≡ no_link → ⊥) → link_text link ≡ decimal link
 link_some {link} e = rw (ne_eqb link no_link e) refl

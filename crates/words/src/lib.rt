@@ -1,12 +1,12 @@
-// Words of a line of text, put at a place of a lent text: numbers in decimal, and links.
+// Words of a line of text, put at a place of a lent text: numbers in decimal, and links. `Display` and `write!` stay out of it:
+// `fmt` ensures nothing of the bytes that it writes, and `Put` says each of them.
 #![tactic(auto)]
 
 ghost use Rattle.std.specs.Prelude.{◌≡◌, [], ◌∷◌, ◌+◌, ◌≤◌};
 ghost use Rattle.words.specs.Words.{space, decimal, link_text};
 ghost use Rattle.words.specs.Putting.{Room, Put};
 
-// "No link", where a link number is expected.
-const NO_LINK: u16 = 65_535;
+use rules::NO_LINK;
 
 pub fn put_byte(text: &mut [u8], at: usize, byte: u8) -> usize
     requires { Room text.old at (byte ∷ []) }
@@ -20,7 +20,7 @@ fn digit(n: u64) -> u8
     requires { n ≤ 9 }
     ensures { result ≡ 48 + n }
 {
-    48 + n as u8
+    b'0' + n as u8
 }
 
 // A number's digits, the first one first.

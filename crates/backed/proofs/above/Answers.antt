@@ -1,9 +1,10 @@
--- `backed::above` meets its contract, by its test. Assumes nothing.
-use Rattle.backed.proofs.Marks.{above_link, above_none}
+-- `backed::above` meets its contract. Assumes nothing.
+use Rattle.std.proofs.Common.{arith}
+use Rattle.std.proofs.lemmas.Grind.{common_steps}
+use Rattle.std.proofs.lemmas.Option.{gets}
 use Rattle.backed.proofs.above.Goals as goal
+use Rattle.backed.specs.Backed.{above}
 
-pub returns-then-k-starts : goal.returns-then-k-starts
-returns-then-k-starts c = let a = c.args in above_link a.starts.now a.link c.if-k-starts.true
-
-pub returns-else-k-starts : goal.returns-else-k-starts
-returns-else-k-starts c = let a = c.args in above_none a.starts.now a.link c.if-k-starts.false
+pub returns : goal.returns
+unfolding above
+returns c = grind (arith, common_steps, gets, c.get.ensures, c.copied.ensures, c.unwrap_or.ensures)

@@ -2,8 +2,8 @@
 use Rattle.batch.proofs.Laws.{too_many, not_too_many}
 use Rattle.batch.proofs.judge_batch.Goals as goal
 
-pub returns-then-row_count-gt256 : goal.returns-then-row_count-gt256
-returns-then-row_count-gt256 c = too_many (rw (← c.row_count.ensures) c.if-row_count-gt256.true)
+pub returns-then-len-gt256 : goal.returns-then-len-gt256
+returns-then-len-gt256 c = too_many (rw (← c.len.ensures) c.if-len-gt256.true)
 
 pub returns : goal.returns
-returns c = not_too_many (rw (← c.row_count.ensures) c.if-row_count-gt256.false) c.judge_rows.ensures
+returns c = not_too_many (rw (← c.len.ensures) c.if-len-gt256.false) c.judge_rows.ensures

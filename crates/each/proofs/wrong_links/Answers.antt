@@ -1,5 +1,4 @@
--- `each::wrong_links` meets its contract. The loop's invariant is that the links before `i` are counted; the measure is
--- the number of links left. Assumes nothing.
+-- `each::wrong_links` meets its contract. The loop's invariant is that the links before `i` are counted. Assumes nothing.
 use native.Mathlib.Omega.{arith}
 use Rattle.rules.specs.Refusals.{wrong_ends_at}
 use Rattle.each.proofs.Laws.{counted_none, counted_more, none_counted}
@@ -10,17 +9,11 @@ loop-i-init c = counted_none _
 
 pub overflow_add-count : goal.overflow_add-count
 unfolding wrong_ends_at
-overflow_add-count c =
-    let counted = c.loop-i.invariant in
-    let link = c.loop-i-test.true in
-    omega (arith, (counted_more counted link c.fault-count.ensures).few)
+overflow_add-count c = omega (arith, (counted_more c.loop-i.invariant c.loop-i-test.true c.fault-count.ensures).few)
 
 pub loop-i-preserved : goal.loop-i-preserved
 unfolding wrong_ends_at
-loop-i-preserved c =
-    let counted = c.loop-i.invariant in
-    let link = c.loop-i-test.true in
-    counted_more counted link c.fault-count.ensures
+loop-i-preserved c = counted_more c.loop-i.invariant c.loop-i-test.true c.fault-count.ensures
 
 pub returns : goal.returns
 returns c none = none_counted c.loop-i.invariant c.loop-i-test.false none

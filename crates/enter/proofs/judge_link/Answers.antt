@@ -8,14 +8,12 @@ pub returns-then-place-ge4096 : goal.returns-then-place-ge4096
 returns-then-place-ge4096 c = no_place c.if-place-ge4096.true
 
 pub returns-then-wrong_ends : goal.returns-then-wrong_ends
-returns-then-wrong_ends c = bad_ends (omega (arith, c.if-place-ge4096.false)) (sym c.wrong_ends.ensures ∙ c.if-wrong_ends.true)
+returns-then-wrong_ends c = bad_ends c.if-place-ge4096.false (sym c.wrong_ends.ensures ∙ c.if-wrong_ends.true)
 
 pub returns-then-start-last_start : goal.returns-then-start-last_start
 returns-then-start-last_start c =
-    let right = sym c.wrong_ends.ensures ∙ c.if-wrong_ends.false in
-    wrong_order (omega (arith, c.if-place-ge4096.false)) right (omega (arith, c.last_start.ensures, c.if-start-last_start.true))
+    wrong_order c.if-place-ge4096.false (sym c.wrong_ends.ensures ∙ c.if-wrong_ends.false) (omega (arith, c.last_start.ensures, c.if-start-last_start.true))
 
 pub returns : goal.returns
 returns c =
-    let right = sym c.wrong_ends.ensures ∙ c.if-wrong_ends.false in
-    right_link (omega (arith, c.if-place-ge4096.false)) right (omega (arith, c.last_start.ensures, c.if-start-last_start.false))
+    right_link c.if-place-ge4096.false (sym c.wrong_ends.ensures ∙ c.if-wrong_ends.false) (omega (arith, c.last_start.ensures, c.if-start-last_start.false))

@@ -1,14 +1,8 @@
 -- `grow::mend` meets its contract: taking the mark for the ceiling makes no other tree. Assumes nothing.
-use Rattle.grow.proofs.Laws.{level, old_down, regrown_up}
+use Rattle.grow.proofs.Laws.{regrown_up}
 use Rattle.grow.proofs.mend.Goals as goal
-
-pub mend_level-requires : goal.mend_level-requires
-mend_level-requires c =
-    let p = c.args.profile in
-    let pre = c.requires in
-    let same = c.leveled-level.ensures in
-    (pre.0, rw same (level p pre.0 pre.1), rw same (old_down p pre.0 pre.1 pre.2))
 
 pub returns : goal.returns
 returns c =
-    regrown_up c.args.profile c.requires.0 c.requires.1 (rw c.leveled-level.ensures at c.mend_level.ensures)
+    let table = c.args.table.now in
+    regrown_up table.profile table.proper c.requires.ample (rw (c.at_level.ensures.profile, c.at_level.ensures.table) at c.mend_level.ensures)

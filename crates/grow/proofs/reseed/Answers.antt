@@ -1,36 +1,31 @@
 -- `grow::reseed` meets its contract: what no row touches stands and offers nothing less, so that with the links into lifted
 -- nodes and those that the rows touch every link is done. Assumes nothing.
-use lib.ListN.{length-replicate}
-use Rattle.rules.specs.Columns.{no_link}
 use Rattle.grow.specs.Grown.{moves}
-use Rattle.grow.proofs.Laws.{parents, stand_apart, lifted_apart, lifted_long, carried_all, seeded, reseeded}
+use Rattle.grow.proofs.Laws.{stand_apart, lifted_apart, lifted_long, reseeded}
+use Rattle.grow.proofs.Seeds.{unused_ready, touched}
 use Rattle.grow.proofs.reseed.Goals as goal
 
-pub lift_rows-lifted-requires : goal.lift_rows-lifted-requires
-lift_rows-lifted-requires c =
-    let p = c.args.profile in
-    let pre = c.requires in
-    (pre.0, pre.6, parents p pre.2, pre.2.named, rw (pre.3, pre.4) (stand_apart p pre.2 pre.1), pre.2.old.whole.first)
+pub lift_rows-lifted-requires-clause-stand : goal.lift_rows-lifted-requires-clause-stand
+lift_rows-lifted-requires-clause-stand c = rw c.requires.unused.queue (stand_apart c.args.net.now.table.profile c.requires.fitted c.requires.level)
 
-pub offer_touched-requires : goal.offer_touched-requires
-offer_touched-requires c =
-    let pre = c.requires in
+pub offer_touched-requires-clause-ready : goal.offer_touched-requires-clause-ready
+offer_touched-requires-clause-ready c =
     let lifted = c.lift_rows-lifted.ensures in
-    (pre.0, lifted.0.begun, pre.2.named, lifted_apart c.args.profile pre.2 pre.1 lifted.1, lifted_long lifted.1 pre.2.old.whole.first, rw pre.5 (length-replicate 256 no_link), pre.6, pre.7)
+    unused_ready c.requires.unused lifted.found lifted.asked lifted.lifted.begun.lined
 
-pub returns-then-lifted : goal.returns-then-lifted
-returns-then-lifted c =
-    let pre = c.requires in
-    let lifted = c.lift_rows-lifted.ensures in
-    let heard = c.offer_touched.ensures in
-    (seeded (carried_all lifted.0) heard.0.partly (rw pre.5 at heard.0.goes_on), moves (lifted_long lifted.1 pre.2.old.whole.first), heard.1)
+pub offer_touched-requires-clause-apart : goal.offer_touched-requires-clause-apart
+offer_touched-requires-clause-apart c = lifted_apart c.args.net.now.table.profile c.requires.fitted c.requires.level c.lift_rows-lifted.ensures.rows
 
-pub returns : goal.returns
-returns c =
-    let pre = c.requires in
+pub returns-then-lifted-clause-begun : goal.returns-then-lifted-clause-begun
+returns-then-lifted-clause-begun c = touched c.args.net.now.table c.lift_rows-lifted.new.search c.offer_touched.new.search c.requires.unused c.lift_rows-lifted.ensures.found c.lift_rows-lifted.ensures.lifted c.offer_touched.ensures.heard
+
+pub returns-then-lifted-clause-reseeded : goal.returns-then-lifted-clause-reseeded
+returns-then-lifted-clause-reseeded c = rw c.if-lifted.true (moves (lifted_long c.lift_rows-lifted.ensures.rows c.requires.fitted.old.whole.first))
+
+pub returns-else-lifted-clause-begun : goal.returns-else-lifted-clause-begun
+returns-else-lifted-clause-begun c = touched c.args.net.now.table c.lift_rows-lifted.new.search c.offer_touched.new.search c.requires.unused c.lift_rows-lifted.ensures.found c.lift_rows-lifted.ensures.lifted c.offer_touched.ensures.heard
+
+pub returns-else-lifted-clause-reseeded : goal.returns-else-lifted-clause-reseeded
+returns-else-lifted-clause-reseeded c =
     let lifted = c.lift_rows-lifted.ensures in
-    let heard = c.offer_touched.ensures in (
-      seeded (carried_all lifted.0) heard.0.partly (rw pre.5 at heard.0.goes_on),
-      reseeded pre.1 lifted.0 lifted.1 c.if-lifted.false (lifted_long lifted.1 pre.2.old.whole.first) heard.0 c.least.ensures,
-      heard.1,
-    )
+    reseeded c.is_empty.result c.requires.level lifted.lifted lifted.rows c.if-lifted.false (lifted_long lifted.rows c.requires.fitted.old.whole.first) c.offer_touched.ensures.heard c.is_empty.ensures.0

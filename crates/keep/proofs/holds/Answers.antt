@@ -1,39 +1,16 @@
--- `keep::holds` meets its contract: each test that fails denies one part of it, and the last is whether the link is usable.
--- Assumes nothing.
+-- `keep::holds` meets its contract: where the sum is right, it depends on whether the link is usable. Assumes nothing.
+use mathlib.Core.Path.{sym, ◌∙◌}
 use native.Mathlib.Omega.{arith}
-use Rattle.basics.proofs.Answers.{tells_no, tells_usable}
+use Rattle.basics.proofs.Answers.{tells_usable}
 use Rattle.keep.proofs.Laws.{holds_usable, holds_not}
-use Rattle.usable.proofs.Reading.{start_has_row}
 use Rattle.keep.proofs.holds.Goals as goal
-
-pub returns-then-starts-k : goal.returns-then-starts-k
-returns-then-starts-k c = tells_no (λ h. omega (arith, h.tight.usable.is_link))
-
-pub overflow_cast-ends : goal.overflow_cast-ends
-overflow_cast-ends c = omega (arith, c.type_inv.ends c.args.old)
-
-pub returns-then-ends-k : goal.returns-then-ends-k
-returns-then-ends-k c = tells_no (λ h. c.if-ends-k.true h.tight.ends_at)
-
-pub overflow_cast-from : goal.overflow_cast-from
-overflow_cast-from c = omega (arith, c.type_inv.starts c.args.old)
-
-pub at-cost-requires : goal.at-cost-requires
-at-cost-requires c = omega (arith, c.requires.0.costs_long)
-
-pub offset_bounds-dist-from : goal.offset_bounds-dist-from
-offset_bounds-dist-from c = omega (arith, start_has_row c.requires.0 c.if-starts-k.false)
-
-pub bounds-dist-from : goal.bounds-dist-from
-bounds-dist-from c = omega (arith, start_has_row c.requires.0 c.if-starts-k.false)
-
-pub usable-requires : goal.usable-requires
-usable-requires c = let pre = c.requires in (pre.0, pre.3, omega (arith, c.if-starts-k.false))
 
 pub returns-then-exact : goal.returns-then-exact
 returns-then-exact c =
-    holds_usable c.args.profile c.requires.0 c.args.dist.now c.requires.1 c.requires.2 c.if-starts-k.false c.at-cost.ensures c.exact.ensures c.if-exact.true c.if-ends-k.false (tells_usable c.usable.ensures)
+    let table = c.args.net.now.table in
+    holds_usable table.profile table.proper c.args.dist.now (omega arith) c.requires c.if-table-k.false c.start.ensures.start c.cost.ensures c.exact.ensures c.if-exact.true (sym c.end.ensures.end ∙ c.if-end-v.false) (tells_usable c.usable.ensures)
 
-pub returns : goal.returns
-returns c =
-    holds_not c.args.profile c.requires.0 c.args.dist.now c.requires.1 c.requires.2 c.if-starts-k.false c.at-cost.ensures c.exact.ensures c.if-exact.false
+pub returns-else-exact : goal.returns-else-exact
+returns-else-exact c =
+    let table = c.args.net.now.table in
+    rw c.if-exact.false (holds_not table.profile table.proper c.args.dist.now (omega arith) c.requires c.if-table-k.false c.start.ensures.start c.cost.ensures c.exact.ensures c.if-exact.false)

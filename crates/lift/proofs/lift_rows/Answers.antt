@@ -4,16 +4,11 @@ use Rattle.lift.specs.Loose.{none, some}
 use Rattle.lift.proofs.Lifts.{lifted}
 use Rattle.lift.proofs.lift_rows.Goals as goal
 
-pub note_rows-requires : goal.note_rows-requires
-note_rows-requires c = let pre = c.requires in (pre.0, pre.1, pre.2, pre.3, pre.4)
+pub returns-then-is_empty-clause-lifted : goal.returns-then-is_empty-clause-lifted
+returns-then-is_empty-clause-lifted c = lifted c.note_rows.ensures (c.is_empty.ensures.0 c.if-is_empty.true)
 
-pub returns-then-least-eq-EMPTY : goal.returns-then-least-eq-EMPTY
-returns-then-least-eq-EMPTY c = (lifted c.note_rows.ensures c.least.ensures c.if-least-eq-EMPTY.true, none refl refl)
+pub returns-then-is_empty-clause-rows : goal.returns-then-is_empty-clause-rows
+returns-then-is_empty-clause-rows c = none refl refl
 
-pub lift_noted-requires : goal.lift_noted-requires
-lift_noted-requires c =
-    let pre = c.requires in
-    (pre.0, pre.1, pre.2.rooted, c.note_rows.ensures, pre.5)
-
-pub returns : goal.returns
-returns c = (c.lift_noted.ensures.0, some c.lift_noted.ensures.1)
+pub returns-clause-rows : goal.returns-clause-rows
+returns-clause-rows c = some c.lift_noted.ensures.fates

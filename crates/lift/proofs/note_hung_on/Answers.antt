@@ -1,48 +1,25 @@
--- `lift::note_hung_on` meets its contract. The invariant: every node stands but those that hang on u by link k or a later one. Assumes nothing.
+-- `lift::note_hung_on` meets its contract: a node that hangs on u by a link is that link's end. Assumes nothing.
 use native.Mathlib.Omega.{arith}
-use Rattle.lift.proofs.Notes.{noting_none, noting_all, noting_past, noting_free, noting_hung}
-use Rattle.usable.proofs.Reading.{end_has_row}
-use Rattle.afoot.proofs.Offers.{orderly}
+use Rattle.lift.proofs.Notes.{orderly_at, noting_none, noting_all, noting_past, noting_free, noting_hung}
+use Rattle.lift.proofs.note_hung_on.Goals.{then-link-k, else-link-k}
 use Rattle.lift.proofs.note_hung_on.Goals as goal
 
 pub loop-k-init : goal.loop-k-init
 loop-k-init c =
-    noting_none (orderly c.args.profile c.requires.0) c.requires.1 c.requires.2 c.requires.3
+    noting_none (orderly_at c.args.net.now.table) c.requires.rooted c.requires.first c.requires.stand
 
-pub overflow_cast-starts : goal.overflow_cast-starts
-overflow_cast-starts c = omega (arith, c.type_inv.starts c.loop-k.k)
-
-pub returns-then-starts-k : goal.returns-then-starts-k
-returns-then-starts-k c =
-    noting_past (orderly c.args.profile c.requires.0) c.requires.1 c.requires.2 c.loop-k.invariant c.loop-k-test.true c.if-starts-k.true
-
-pub overflow_cast-end : goal.overflow_cast-end
-overflow_cast-end c = omega (arith, c.type_inv.ends c.loop-k.k)
-
-pub offset_bounds-parent-end : goal.offset_bounds-parent-end
-offset_bounds-parent-end c =
-    omega (arith, end_has_row c.requires.0 c.loop-k-test.true)
-
-pub bounds-parent-end : goal.bounds-parent-end
-bounds-parent-end c =
-    omega (arith, end_has_row c.requires.0 c.loop-k-test.true, c.requires.1.long)
-
-pub overflow_cast-k-in-loop-k : goal.overflow_cast-k-in-loop-k
-overflow_cast-k-in-loop-k c =
-    omega (arith, c.requires.0.few_links)
-
-pub note-requires : goal.note-requires
-note-requires c =
-    (c.loop-k.invariant.stands.lined, end_has_row c.requires.0 c.loop-k-test.true)
-
-pub loop-k-preserved-then-parent-end : goal.loop-k-preserved-then-parent-end
-loop-k-preserved-then-parent-end c =
-    noting_hung (orderly c.args.profile c.requires.0) c.requires.1 c.requires.2 c.loop-k.invariant c.loop-k-test.true c.if-parent-end.true c.note.ensures
+pub returns-then-start-u : goal.returns-then-start-u
+returns-then-start-u c =
+    noting_past (orderly_at c.args.net.now.table) c.requires.rooted c.requires.first c.loop-k.invariant c.loop-k-test.true (rw c.start.ensures.start at c.if-start-u.true)
 
 pub loop-k-preserved : goal.loop-k-preserved
 loop-k-preserved c =
-    noting_free (orderly c.args.profile c.requires.0) c.requires.1 c.requires.2 c.loop-k.invariant c.loop-k-test.true c.if-parent-end.false
+    let o = orderly_at c.args.net.now.table in
+    elim c.if-link-k.branch [
+      | then-link-k w ↦ rw w.queue-is (noting_hung o c.requires.rooted c.requires.first c.loop-k.invariant c.loop-k-test.true (rw c.end-end.ensures.end at w.if-link-k.true) (rw c.end-end.ensures.end at w.note.ensures))
+      | else-link-k w ↦ rw w.queue-is (noting_free o c.requires.rooted c.requires.first c.loop-k.invariant c.loop-k-test.true (rw c.end-end.ensures.end at w.if-link-k.false))
+    ]
 
 pub returns : goal.returns
 returns c =
-    noting_all (orderly c.args.profile c.requires.0) c.requires.1 c.requires.2 c.loop-k.invariant c.loop-k-test.false
+    noting_all (orderly_at c.args.net.now.table) c.requires.rooted c.requires.first c.loop-k.invariant (omega arith)

@@ -1,26 +1,22 @@
 -- `lines::put_refusal` meets its contract: the letter and the words, one behind another; before each there is room for what
 -- is left of the line. Assumes nothing.
-use native.Mathlib.Omega.{arith}
 use Rattle.words.proofs.Laws.{put_then, room_front, room_rest}
 use Rattle.lines.proofs.Laws.{refusal_room}
 use Rattle.lines.proofs.put_refusal.Goals as goal
 
-pub put_byte-end-requires : goal.put_byte-end-requires
-put_byte-end-requires c = room_front _ (refusal_room c.requires c.args.number c.args.place (omega arith) (omega arith))
-
 pub put_word-end-requires : goal.put_word-end-requires
 put_word-end-requires c =
-    let whole = refusal_room c.requires c.args.number c.args.place (omega arith) (omega arith) in
+    let whole = refusal_room c.requires c.ranges.number c.ranges.place in
     room_front _ (room_rest c.put_byte-end.ensures _ whole)
 
 pub put_word-end-requires-2 : goal.put_word-end-requires-2
 put_word-end-requires-2 c =
-    let whole = refusal_room c.requires c.args.number c.args.place (omega arith) (omega arith) in
+    let whole = refusal_room c.requires c.ranges.number c.ranges.place in
     room_front _ (room_rest c.put_word-end.ensures _ (room_rest c.put_byte-end.ensures _ whole))
 
 pub put_byte-requires : goal.put_byte-requires
 put_byte-requires c =
-    let whole = refusal_room c.requires c.args.number c.args.place (omega arith) (omega arith) in
+    let whole = refusal_room c.requires c.ranges.number c.ranges.place in
     room_rest c.put_word-end-2.ensures _ (room_rest c.put_word-end.ensures _ (room_rest c.put_byte-end.ensures _ whole))
 
 pub returns : goal.returns

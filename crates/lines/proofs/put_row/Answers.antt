@@ -1,38 +1,32 @@
 -- `lines::put_row` meets its contract: the letter and the words, one behind another; before each there is room for what is
 -- left of the line. Assumes nothing.
-use native.Mathlib.Omega.{arith}
 use Rattle.words.proofs.Laws.{put_then, room_front, room_rest}
 use Rattle.lines.proofs.Laws.{row_room}
 use Rattle.lines.proofs.put_row.Goals as goal
 
-pub put_byte-end-requires : goal.put_byte-end-requires
-put_byte-end-requires c =
-    let whole = row_room c.requires c.args.node c.args.dist c.args.parent c.args.first (omega arith) (omega arith) (omega arith) (omega arith) in
-    room_front _ whole
-
 pub put_word-end-requires : goal.put_word-end-requires
 put_word-end-requires c =
-    let whole = row_room c.requires c.args.node c.args.dist c.args.parent c.args.first (omega arith) (omega arith) (omega arith) (omega arith) in
+    let whole = row_room c.requires c.ranges.node c.ranges.dist c.ranges.parent c.ranges.first in
     room_front _ (room_rest c.put_byte-end.ensures _ whole)
 
 pub put_word-end-requires-2 : goal.put_word-end-requires-2
 put_word-end-requires-2 c =
-    let whole = row_room c.requires c.args.node c.args.dist c.args.parent c.args.first (omega arith) (omega arith) (omega arith) (omega arith) in
+    let whole = row_room c.requires c.ranges.node c.ranges.dist c.ranges.parent c.ranges.first in
     room_front _ (room_rest c.put_word-end.ensures _ (room_rest c.put_byte-end.ensures _ whole))
 
 pub put_link-end-requires : goal.put_link-end-requires
 put_link-end-requires c =
-    let whole = row_room c.requires c.args.node c.args.dist c.args.parent c.args.first (omega arith) (omega arith) (omega arith) (omega arith) in
+    let whole = row_room c.requires c.ranges.node c.ranges.dist c.ranges.parent c.ranges.first in
     room_front _ (room_rest c.put_word-end-2.ensures _ (room_rest c.put_word-end.ensures _ (room_rest c.put_byte-end.ensures _ whole)))
 
 pub put_link-end-requires-2 : goal.put_link-end-requires-2
 put_link-end-requires-2 c =
-    let whole = row_room c.requires c.args.node c.args.dist c.args.parent c.args.first (omega arith) (omega arith) (omega arith) (omega arith) in
+    let whole = row_room c.requires c.ranges.node c.ranges.dist c.ranges.parent c.ranges.first in
     room_front _ (room_rest c.put_link-end.ensures _ (room_rest c.put_word-end-2.ensures _ (room_rest c.put_word-end.ensures _ (room_rest c.put_byte-end.ensures _ whole))))
 
 pub put_byte-requires : goal.put_byte-requires
 put_byte-requires c =
-    let whole = row_room c.requires c.args.node c.args.dist c.args.parent c.args.first (omega arith) (omega arith) (omega arith) (omega arith) in
+    let whole = row_room c.requires c.ranges.node c.ranges.dist c.ranges.parent c.ranges.first in
     room_rest c.put_link-end-2.ensures _ (room_rest c.put_link-end.ensures _ (room_rest c.put_word-end-2.ensures _ (room_rest c.put_word-end.ensures _ (room_rest c.put_byte-end.ensures _ whole))))
 
 pub returns : goal.returns

@@ -1,50 +1,52 @@
 -- `offends::least_offended` meets its contract. The invariant: `least` is the answer for the links passed, and what was
 -- asked is kept. What one link more does to it stands in Laws.antt. Assumes nothing.
-use mathlib.Core.Path.{◌≡◌}
+use mathlib.Core.Path.{◌≡◌, sym, ◌∙◌}
 use native.Mathlib.Omega.{arith}
 use lib.ListN.{length}
-use borrow.Author.Rules.{rules}
-use Rattle.basics.proofs.Arrays.{leaving}
+use Rattle.usable.proofs.Reading.{end_has_row}
 use Rattle.asked.proofs.Laws.{kept_none}
-use Rattle.offends.proofs.Laws.{by_bars, least_calm, least_later, least_skip, least_take}
+use Rattle.offends.proofs.Laws.{by_bars, least_calm, least_skip, least_take}
 use Rattle.offends.proofs.Below.{low}
 use Rattle.offends.proofs.least_offended.Goals as goal
+use Rattle.offends.proofs.least_offended.Goals.{then-link_offends, else-link_offends}
 
-pub bars-bars-requires : goal.bars-bars-requires
-bars-bars-requires c = c.requires.1
+pub first_offering-requires : goal.first_offering-requires
+first_offering-requires c = low c.bars-bars.ensures c.requires
 
-pub first_offering-k-requires : goal.first_offering-k-requires
-first_offering-k-requires c = let pre = c.requires in (pre.0, low c.bars-bars.ensures pre.2)
-
-pub returns-then-k-starts : goal.returns-then-k-starts
-returns-then-k-starts c =
-    let all : c.first_offering-k.result ≡ length c.args.starts.now = omega (arith, c.if-k-starts.true) in
-    rw all at (least_calm c.args.profile c.requires.0 c.args.dist.now c.requires.1 c.bars-bars.ensures c.first_offering-k.ensures)
-
-pub first_links-at-requires : goal.first_links-at-requires
-first_links-at-requires c = leaving c.requires.0
+pub returns-in_err-first : goal.returns-in_err-first
+returns-in_err-first c =
+    let t = c.args.table.now in
+    rw c.from_residual.ensures (least_calm t.profile t.proper c.args.dist.now c.told-dist c.bars-bars.ensures c.in_err-first.ensures)
 
 pub loop-k-init : goal.loop-k-init
 loop-k-init c =
-    (c.first_offering-k.ensures.is_few, least_calm c.args.profile c.requires.0 c.args.dist.now c.requires.1 c.bars-bars.ensures c.first_offering-k.ensures, kept_none _)
+    let t = c.args.table.now in
+    record { least = least_calm t.profile t.proper c.args.dist.now c.told-dist c.bars-bars.ensures c.in_ok-first.ensures.1; kept = kept_none _ }
 
-pub link_offends-requires : goal.link_offends-requires
-link_offends-requires c = let pre = c.requires in (pre.0, omega arith, low c.bars-bars.ensures pre.2, c.first_links-at.ensures, c.loop-k.invariant.2)
-
-pub loop-k-preserved-then-end-least : goal.loop-k-preserved-then-end-least
-loop-k-preserved-then-end-least c =
-    let reads = by_bars c.args.profile c.requires.0 c.args.dist.now c.requires.1 c.loop-k-test.true c.bars-bars.ensures in
-    (search rules, least_take c.loop-k.invariant.1 c.link_offends.ensures.0 reads c.if-link_offends.true c.if-end-least.true, c.link_offends.ensures.1)
-
-pub loop-k-preserved-else-end-least : goal.loop-k-preserved-else-end-least
-loop-k-preserved-else-end-least c = (search rules, least_later c.loop-k.invariant.1 (λ o. c.if-end-least.false), c.link_offends.ensures.1)
+pub link_offends-requires-clause-low : goal.link_offends-requires-clause-low
+link_offends-requires-clause-low c = low c.bars-bars.ensures c.requires
 
 pub loop-k-preserved : goal.loop-k-preserved
 loop-k-preserved c =
-    let reads = by_bars c.args.profile c.requires.0 c.args.dist.now c.requires.1 c.loop-k-test.true c.bars-bars.ensures in
-    (search rules, least_skip c.loop-k.invariant.1 c.link_offends.ensures.0 reads c.if-link_offends.false, c.link_offends.ensures.1)
+    let t = c.args.table.now in
+    let reads = sym (by_bars t.profile t.proper c.args.dist.now c.told-dist c.loop-k-test.true c.bars-bars.ensures) in
+    let kept = c.link_offends.ensures.kept in
+    elim c.if-link_offends.branch [
+      | then-link_offends w ↦
+          let passes = reads ∙ sym c.link_offends.ensures.offends ∙ w.if-link_offends.true in
+          record {
+            least =
+                rw w.least-is
+                (least_take _ _ _ _ c.loop-k.invariant.least passes (end_has_row t.proper c.loop-k-test.true)
+                (rw (← w.end-end.ensures.end, ← w.unwrap_or.ensures) (omega arith)));
+            kept = kept;
+          }
+      | else-link_offends w ↦
+          let least = least_skip _ _ _ _ c.loop-k.invariant.least (reads ∙ sym c.link_offends.ensures.offends ∙ w.if-link_offends.false) in
+          record { least = rw w.least-is least; kept = kept }
+    ]
 
 pub returns : goal.returns
 returns c =
-    let all : c.loop-k.k ≡ length c.args.starts.now = omega arith in
-    rw all at c.loop-k.invariant.1
+    let all : c.loop-k.k ≡ length c.args.table.now.starts.now = omega (arith, c.in_ok-first.ensures.0) in
+    rw all at c.loop-k.invariant.least

@@ -3,4 +3,4 @@ use lib.ListN.{get_or}
 use Rattle.path.proofs.+depth.Given as goal
 
 abbrev pub decreases-depth : goal.decreases-depth
-decreases-depth l = get_or l.dist.now l.node 0
+decreases-depth l = get_or l.tree.now.dist.now l.node 0

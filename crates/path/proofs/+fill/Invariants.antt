@@ -3,4 +3,4 @@ use lib.ListN.{get_or}
 use Rattle.path.proofs.+fill.Given as goal
 
 abbrev pub decreases-fill : goal.decreases-fill
-decreases-fill l = get_or l.dist.now l.node 0
+decreases-fill l = get_or l.tree.now.dist.now l.node 0

@@ -5,4 +5,4 @@ use Rattle.plain.proofs.read.Goals as goal
 
 pub returns : goal.returns
 returns c =
-    hands_back (given_is c.read_at-read.ensures) c.take_apart-told.ensures c.number.ensures
+    hands_back (given_is c.read_at-read.ensures) c.from-told.ensures c.number.ensures

@@ -3,7 +3,7 @@
 use mathlib.Core.Path.{◌≡◌, sym, ◌∙◌}
 use native.Mathlib.Omega.{arith}
 use lib.ListN.{get_or}
-use Rattle.stream.specs.declared.Body.TheVariants.{Bytes}
+use Rattle.std.specs.Prelude.{Some}
 use Rattle.stream.specs.Records.{body_length}
 use Rattle.stream.proofs.Laws.{reads_end, reads_unknown, reads_cut, reads_record, is_given_lem}
 use Rattle.stream.proofs.read_at.Goals as goal
@@ -22,18 +22,13 @@ returns-in_default c =
 
 pub returns-then-stream-body : goal.returns-then-stream-body
 returns-then-stream-body c =
-    let known : body_length (get_or c.args.stream.now c.args.place 0) ≡ Bytes c.in-Bytes.length = sym c.in-Bytes.ensures in
+    let known : body_length (get_or c.args.stream.now c.args.place 0) ≡ Some c.in-Some.length = sym c.in-Some.ensures in
     let given = c.args in
     is_given_lem given.stream.now given.place
     (c.stay-then-stream-body.ensures ∙ reads_cut given.stream.now given.place c.if-stream-place.false known (omega arith))
 
-pub record_at-item-requires : goal.record_at-item-requires
-record_at-item-requires c =
-    let known : body_length (get_or c.args.stream.now c.args.place 0) ≡ Bytes c.in-Bytes.length = sym c.in-Bytes.ensures in
-    rw known (omega arith)
-
 pub returns : goal.returns
 returns c =
-    let known : body_length (get_or c.args.stream.now c.args.place 0) ≡ Bytes c.in-Bytes.length = sym c.in-Bytes.ensures in
+    let known : body_length (get_or c.args.stream.now c.args.place 0) ≡ Some c.in-Some.length = sym c.in-Some.ensures in
     let given = c.args in
     rw c.record_at-item.ensures (is_given_lem given.stream.now given.place (reads_record given.stream.now given.place c.if-stream-place.false known (omega arith)))

@@ -4,13 +4,13 @@ use Rattle.turn.proofs.Laws.{entries, turned_too_long, turned_reads}
 use Rattle.turn.proofs.take_turn.Goals as goal
 
 pub returns-then-stream-gt-MOST_BYTES : goal.returns-then-stream-gt-MOST_BYTES
-returns-then-stream-gt-MOST_BYTES c = turned_too_long c.if-stream-gt-MOST_BYTES.true c.requires.0 c.put_line-end.ensures
+returns-then-stream-gt-MOST_BYTES c = turned_too_long c.if-stream-gt-MOST_BYTES.true c.requires.holds c.put_line-end.ensures
 
 pub put_line-end-requires-2 : goal.put_line-end-requires-2
 put_line-end-requires-2 c =
     let step = c.step-done.ensures in
     let few = entries step.0 step.1 in
-    (c.requires.1, few.0, few.1)
+    record { room = c.requires.room; few = few.0; listed = few.1 }
 
 pub returns : goal.returns
 returns c =

@@ -4,4 +4,4 @@ use Rattle.gather.proofs.Cut.{gathered_updated}
 use Rattle.tree.proofs.Tree.update.Goals as goal
 
 pub returns : goal.returns
-returns c = gathered_updated c.gather-rows.ensures c.update_rows.ensures
+returns c = gathered_updated c.gather-rows.ensures (rw c.columns.ensures at c.update_columns.ensures)
