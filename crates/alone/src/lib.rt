@@ -32,7 +32,8 @@ fn tight_by(mark: u32, v: usize, dist: u32, end: usize, cost: u32, from: u32) ->
     end == v && from != mark && u64::from(from) + u64::from(cost) == u64::from(dist)
 }
 
-// The first link of a node whose parent link is `parent`, which starts at a node whose first link is `first`.
+// The first link of a node whose parent link is `parent`, which starts at a node whose first link is `first`. The same of a table
+// (`firsts::first_by`) asks what is known here, whether the number is a link's, and would be no plainer.
 fn first_by(root: usize, parent: u16, start: usize, first: u16) -> u16
     ensures { result ≡ first_of root parent start first }
 {
@@ -59,7 +60,8 @@ fn hung_by(table: &Table, tree: &Arrays, by: u16, v: usize, mark: u8) -> bool
         && backed::usable_by(table, k, mark)
 }
 
-// The row of a reached node `v` hangs it by its parent link, and has the right first link.
+// The row of a reached node `v` hangs it by its parent link, and has the right first link. What the marks say (`LedBack`) is a clause
+// here and below: it is of table and tree together.
 fn hung(table: &Table, tree: &Arrays, backed: &[u8; 257], v: usize) -> bool
     requires node { v < most_nodes }
     requires backed { LedBack (table_at table.now) tree.now.parent.now backed.now }

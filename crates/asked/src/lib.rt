@@ -11,7 +11,7 @@ ghost use Rattle.asked.specs.Asked.{kept, Kept};
 
 use usable::{Net, Table};
 
-// An answer as it is kept.
+// An answer as it is kept, with its node in one number of 16 bits: fixed memory.
 fn kept(start: u16, answer: bool) -> u16
     requires { start < most_nodes }
     ensures { result ≡ kept start answer }

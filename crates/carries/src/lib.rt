@@ -34,7 +34,8 @@ pub fn carries(net: &Net, link: u16, v: usize, dist: &[u32; 256]) -> bool
     enough(table.profile.mark, dist[from], table.cost(k), dist[v]) && net.usable(k)
 }
 
-// Node `v` waits to be lifted, if it is reached.
+// Node `v` waits to be lifted, if it is reached. The distances stand beside the queue, as in `lift`: they are only read here, and
+// `&mut Search` would promise less.
 pub fn note(mark: u32, v: usize, dist: &[u32; 256], queue: &mut Queue)
     requires lined { Lined mark dist.now queue.old }
     requires node { v < most_nodes }

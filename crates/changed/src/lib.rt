@@ -15,6 +15,7 @@ pub fn list_changed(nodes: usize, old: &Arrays, new: &Arrays, list: &mut [u16]) 
     requires room { nodes ≤ length list.old }
     ensures { ListedBelow (arrays_of old.now) (arrays_of new.now) nodes list.old list.new result }
 {
+    // The place of the next entry, which no loop gives.
     let mut count: usize = 0;
     for node in 0..nodes {
         if old.row(node) != new.row(node) {

@@ -34,8 +34,8 @@ fn judge_link(nodes: usize, starts: &[u16], start: u16, end: u16) -> Result<(), 
     Ok(())
 }
 
-// LINK: the link behind the links so far, where the table takes it. The columns are lent one by one: what keeps them together
-// (`session`'s `Lists`) stands above.
+// LINK: the link behind the links so far, where the table takes it. The columns are lent one by one: of a struct of three `&mut`
+// arrays no proof knows what they hold at its end (see `update`).
 pub fn enter_link(
     nodes: usize,
     links: usize,

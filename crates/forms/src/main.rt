@@ -47,7 +47,7 @@ fn asked(stream: &[u8], more: usize) -> Read {
     }
 }
 
-// ---- a line
+// ---- a line, printed through `io`, which has no Display
 
 fn bar() {
     io::write_all(1, b" |");

@@ -8,7 +8,7 @@ use batch::Columns;
 // One row more than a batch may have: a batch that has it is refused, whatever stands behind it.
 pub const MOST_READ: usize = 257;
 
-// The first `count` places of both columns are rows. There is room for one row more than a batch may have, by which a
+// The first `count` places of both columns are rows (fixed memory, no heap). There is room for one row more than a batch may have, by which a
 // batch of too many rows is told.
 #[derive(Clone, Copy)]
 pub struct Rows {

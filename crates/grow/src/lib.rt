@@ -2,7 +2,7 @@
 // changed. All are seeds of one loop that settles distances and finds links. What is found is a built tree's parents;
 // after a change a node whose old link is tight keeps that. The loop leaves guesses in `first`; after a change the old
 // first links are the guesses of the nodes that don't move. Inside, the mark is the ceiling: the public functions show
-// that this makes no other tree. The arrays that are written are three parameters, for the reason that `update` gives.
+// that this makes no other tree (`Level` is a clause of what they call). The arrays that are written are three parameters, for the reason that `update` gives.
 #![tactic(auto)]
 
 ghost use Rattle.std.specs.Prelude.{◌≡◌, length};

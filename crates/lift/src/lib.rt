@@ -1,5 +1,6 @@
 // Which distances still stand after costs have changed: a node whose parent link no longer carries it goes to
-// unreached, and so does every node that hangs on it.
+// unreached, and so does every node that hangs on it. What holds of parents, distances and queue between two steps (`Rooted`,
+// `Parents`, `Lined`, `Naming`) are clauses: each is of several values that are lent apart.
 #![tactic(auto)]
 
 ghost use Rattle.std.specs.Prelude.{◌≡◌, ◌≢◌, ◌<◌, length, get_or};

@@ -1,4 +1,5 @@
-// What a record tells, as a line of text, put at a place of a lent text.
+// What a record tells, as a line of text, put at a place of a lent text: byte by byte and with the place, for the reason that `words`
+// gives.
 #![tactic(auto)]
 
 ghost use Rattle.std.specs.Prelude.{◌≡◌, ◌+◌, ◌≤◌, leb, length};

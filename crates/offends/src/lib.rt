@@ -45,7 +45,8 @@ fn link_offers(table: &Table, bars: &[u64; 256], k: usize) -> bool
     sum < bars[table.end(k)]
 }
 
-// It does, and is usable, which is asked last.
+// It does, and is usable, which is asked last. That the bars are low (`Low`) is a clause, since an array of 64-bit numbers is what
+// one comparison needs.
 fn link_offends(net: &Net, bars: &[u64; 256], asked: &mut [u16; 256], k: usize) -> bool
     requires link { k < length net.now.table.starts.now }
     requires low { Low bars.now }

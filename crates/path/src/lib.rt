@@ -35,7 +35,7 @@ fn fill(links: &Links, tree: &Arrays, node: usize, n: usize, path: &mut [u16; 25
     }
 }
 
-// The path of a reached node, at the front of the list where there is room for it, and how many links it has; else nothing
+// The path of a reached node, by a local array with its length (fixed memory, no heap), at the front of the list where there is room for it, and how many links it has; else nothing
 // is written.
 pub fn trace(links: &Links, tree: &Arrays, node: usize, list: &mut [u16]) -> Option<usize>
     requires { Climbable (climb_in links.now tree.now) node 0 }

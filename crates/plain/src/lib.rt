@@ -9,7 +9,7 @@ ghost use Rattle.plain.specs.Readings.{HandedBack, parts_of};
 use rules::Refusal;
 use stream::Item;
 
-// The number, with both values written.
+// The number, with both values written: what C takes has no Result.
 pub fn tell(answer: Result<(), Refusal>, values: &mut [u16; 2]) -> u16
     ensures number { result ≡ number_in (told answer) }
     ensures values { values.new ≡ value_in (told answer) ∷ second_in (told answer) ∷ [] }

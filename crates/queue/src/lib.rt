@@ -40,7 +40,7 @@ fn least_of_four(keys: &[u64], from: usize) -> u64
         .min(keys[from + 2].min(keys[from + 3]))
 }
 
-// The least of eight keys.
+// The least of eight keys, of two fours: each size is a tree of comparisons of its own.
 fn least_of_eight(keys: &[u64], from: usize) -> u64
     requires { from + 8 ≤ length keys.now }
     ensures { Least keys.now from (from + 8) result }

@@ -31,7 +31,7 @@ pub enum Refusal {
     ListTooShort,
 }
 
-// A table of links as it is lent, its costs aside: the node count, the root, and where each link starts and ends. Any numbers
+// A table of links as it is lent, its costs aside, since an update writes those: the node count, the root, and where each link starts and ends. Any numbers
 // may stand in it.
 #[derive(Clone, Copy)]
 pub struct Links<'a> {
@@ -103,7 +103,8 @@ pub struct Change {
     pub cost: u16,
 }
 
-// The refusal's number in the scope's table, and 0 where nothing is refused.
+// The refusal's number in the scope's table, and 0 where nothing is refused: by a match, since `as` gives no number of an enum with
+// values.
 pub fn number(answer: Result<(), Refusal>) -> u16
     ensures { result ≡ number_of answer }
 {

@@ -18,6 +18,7 @@ use stream::Item;
 use tree::Tree;
 
 // What is lent to a session: the columns of the links, the rows that wait for APPLY, and the nodes that APPLY lists.
+// How many of each are there, the state says: fixed memory, no heap.
 #[derive(Drop)]
 pub struct Lists {
     pub starts: [u16; 4096],
