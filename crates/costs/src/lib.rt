@@ -2,7 +2,7 @@
 #![tactic(auto)]
 
 ghost use Rattle.std.specs.Prelude.{◌≡◌, ℕ, ◌≤◌, ◌<◌, ◌^◌, length, get_or, set, map};
-ghost use Rattle.costs.specs.Costs.{costs_of};
+ghost use Rattle.costs.specs.Costs.{costs_of, in_use, Stored};
 
 // A cost of some width.
 pub trait Cost: Copy {
@@ -82,4 +82,18 @@ pub fn store<C: Cost>(column: &mut [C], k: usize, cost: u32)
     ensures { map C.number column.new ≡ set (map C.number column.old) k cost }
 {
     column[k] = C::from_number(cost);
+}
+
+// Writes a cost at a place of the column in use, of two that are lent: the wide one where it has places, else the narrow one. It is
+// for a caller that doesn't know which; one that does calls `store`.
+pub fn store_in_use(narrow: &mut [u16], wide: &mut [u32], k: usize, cost: u32)
+    requires within { k < length (in_use narrow.old wide.old) }
+    requires fits { length wide.old ≡ 0 → cost < 2 ^ 16 }
+    ensures { Stored narrow.old wide.old k cost narrow.new wide.new }
+{
+    if wide.len() == 0 {
+        store(narrow, k, cost);
+    } else {
+        store(wide, k, cost);
+    }
 }

@@ -105,12 +105,11 @@ fn say_rows(t: Tree) {
     }
 }
 
-fn say_answer(counted: Result<usize, Refusal>) {
-    let answer = counted.map(|_| ());
+fn say_answer(answer: Result<usize, Refusal>) {
     say_number(rules::number(answer) as u64);
     say_number(rules::value(answer) as u64);
     say_number(rules::second(answer) as u64);
-    say_number(counted.unwrap_or(0) as u64);
+    say_number(answer.unwrap_or(0) as u64);
 }
 
 // ---- batches

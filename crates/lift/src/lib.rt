@@ -84,9 +84,9 @@ fn note_rows(net: &Net, changed: &[u16], parent: &[u16; 256], dist: &[u32; 256],
     requires stand { StandApart (net_at net.now.table) parent.now changed.now 0 dist.now queue.old }
     ensures { AllStand (net_at net.now.table) parent.now dist.now queue.new }
 {
-    for link in changed {
-        note_end(net, *link, parent, dist, queue);
-        note_start(net, *link, parent, dist, queue);
+    for i in 0..changed.len() {
+        note_end(net, changed[i], parent, dist, queue);
+        note_start(net, changed[i], parent, dist, queue);
     }
 }
 

@@ -40,8 +40,8 @@ fn put_changed(text: &mut [u8], at: usize, nodes: &[u16]) -> usize
 {
     let letter = words::put_byte(text, at, b'A');
     let mut end = words::put_word(text, letter, nodes.len() as u64);
-    for node in nodes {
-        end = words::put_word(text, end, *node as u64);
+    for i in 0..nodes.len() {
+        end = words::put_word(text, end, nodes[i] as u64);
     }
     words::put_byte(text, end, b'\n')
 }

@@ -10,7 +10,7 @@ use rules::Refusal;
 use stream::Item;
 
 // The number, with both values written: what C takes has no Result.
-pub fn tell(answer: Result<(), Refusal>, values: &mut [u16; 2]) -> u16
+pub fn tell<A: Copy>(answer: Result<A, Refusal>, values: &mut [u16; 2]) -> u16
     ensures number { result ≡ number_in (told answer) }
     ensures values { values.new ≡ value_in (told answer) ∷ second_in (told answer) ∷ [] }
 {
@@ -25,7 +25,7 @@ pub fn tell_count(answer: Result<usize, Refusal>, count: &mut usize, values: &mu
     ensures count { count.new ≡ count_in answer }
 {
     *count = answer.unwrap_or(0);
-    tell(answer.map(|_| ()), values)
+    tell(answer, values)
 }
 
 // A record as other languages take it: its kind, and its numbers, 32 bits wide, with 0 in the places that it doesn't have. Where there

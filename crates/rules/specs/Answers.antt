@@ -44,11 +44,11 @@ abbrev pub second_in : Verdict → ℕ
 second_in accepted = 0
 second_in (refused number values) = values.second
 
-abbrev pub number_of : Answer → ℕ
+abbrev pub number_of : {A : Type 0} → Result A Refusal → ℕ
 number_of answer = number_in (told answer)
 
-abbrev pub value_of : Answer → ℕ
+abbrev pub value_of : {A : Type 0} → Result A Refusal → ℕ
 value_of answer = value_in (told answer)
 
-abbrev pub second_of : Answer → ℕ
+abbrev pub second_of : {A : Type 0} → Result A Refusal → ℕ
 second_of answer = second_in (told answer)

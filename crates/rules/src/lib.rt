@@ -104,12 +104,12 @@ pub struct Change {
 }
 
 // The refusal's number in the scope's table, and 0 where nothing is refused: by a match, since `as` gives no number of an enum with
-// values.
-pub fn number(answer: Result<(), Refusal>) -> u16
+// values. What an accepted job hands back beside is its own: a count, or nothing.
+pub fn number<A: Copy>(answer: Result<A, Refusal>) -> u16
     ensures { result ≡ number_of answer }
 {
     match answer {
-        Ok(()) => 0,
+        Ok(_) => 0,
         Err(Refusal::WrongNodeCount) => 1,
         Err(Refusal::WrongRoot) => 2,
         Err(Refusal::WrongColumns) => 3,
@@ -126,7 +126,7 @@ pub fn number(answer: Result<(), Refusal>) -> u16
 }
 
 // What the refusal carries, and 0 where it carries nothing.
-pub fn value(answer: Result<(), Refusal>) -> u16
+pub fn value<A: Copy>(answer: Result<A, Refusal>) -> u16
     ensures { result ≡ value_of answer }
 {
     match answer {
@@ -138,7 +138,7 @@ pub fn value(answer: Result<(), Refusal>) -> u16
 }
 
 // The second value that the refusal carries, and 0 where it carries none.
-pub fn second(answer: Result<(), Refusal>) -> u16
+pub fn second<A: Copy>(answer: Result<A, Refusal>) -> u16
     ensures { result ≡ second_of answer }
 {
     match answer {

@@ -10,7 +10,8 @@ pub loop-i-init : goal.loop-i-init
 loop-i-init c = upto_none _
 
 pub loop-i-preserved : goal.loop-i-preserved
-loop-i-preserved c = upto_more _ _ _ _ c.loop-i.invariant (omega (arith, length-take {A = Change})) c.loop-i-test.true
+loop-i-preserved c =
+    rw (c.put.ensures.links, c.put.ensures.costs) (upto_more _ _ _ _ c.loop-i.invariant (omega (arith, length-take {A = Change})) c.loop-i-test.true)
 
 pub returns : goal.returns
-returns c = upto_all _ c.min-count.ensures (omega arith) c.loop-i.invariant
+returns c = upto_all _ (omega (arith, c.min-count.ensures)) (omega arith) c.loop-i.invariant

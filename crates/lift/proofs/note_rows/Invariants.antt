@@ -4,5 +4,5 @@ use Rattle.usable.specs.Standing.{net_at}
 use Rattle.lift.specs.Loose.{StandApart}
 use Rattle.lift.proofs.note_rows.Given as goal
 
-abbrev pub invariant-loop-link : goal.invariant-loop-link
-invariant-loop-link l = StandApart (net_at l.net.table) l.parent l.changed l.link-index l.dist l.queue
+abbrev pub invariant-loop-i : goal.invariant-loop-i
+invariant-loop-i l = StandApart (net_at l.net.table) l.parent l.changed l.i l.dist l.queue

@@ -6,8 +6,8 @@ use Rattle.lines.specs.Lines.{ending}
 use Rattle.lines.proofs.Laws.{Listing}
 use Rattle.lines.proofs.put_changed.Given as goal
 
-abbrev pub invariant-loop-node : goal.invariant-loop-node
-invariant-loop-node l = record {
+abbrev pub invariant-loop-i : goal.invariant-loop-i
+invariant-loop-i l = record {
   room : Room l.initial.text l.initial.end (ending (map decimal l.nodes));
-  listing : Listing l.nodes l.initial.text l.initial.end l.text l.end l.node-index;
+  listing : Listing l.nodes l.initial.text l.initial.end l.text l.end l.i;
 }
