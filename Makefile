@@ -1,6 +1,6 @@
 # What people type. `rt` is the toolchain's command.
 .PHONY: run test archive program records install room compare others bench bench-once bench-peers example c-example \
-	rust-example rust-test bare records-test front-test run-test streams cases installed lint clean
+	rust-example rust-test bare records-test front-test run-test streams cases aligned installed lint clean
 
 # Where `make install` puts things. DESTDIR, if set, comes before it.
 PREFIX ?= /usr/local
@@ -96,6 +96,10 @@ front-test:
 
 run-test: program
 	@tests/run.sh
+
+# What the archive is beside the one that `rt lib` built: alignments and no more.
+aligned: archive
+	@tests/aligned.sh crates/border/out/libborder.a target/lib/libroutes.a
 
 # A copy installed under target/installed, used as anyone would use it.
 installed:

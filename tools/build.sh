@@ -19,8 +19,8 @@ case ${1-} in
         ;;
 esac
 
-# All that it is made of: the crates' text and the kit.
-sum=$({ rt version && find crates.txt HANDLES crates -path '*/out' -prune -o -type f -print0 | LC_ALL=C sort -z | xargs -0 sha256sum; } | sha256sum)
+# All that it is made of: the crates' text, the kit and these scripts.
+sum=$({ rt version && find crates.txt HANDLES tools/build.sh tools/align.sh crates -path '*/out' -prune -o -type f -print0 | LC_ALL=C sort -z | xargs -0 sha256sum; } | sha256sum)
 [ -z "$verb" ] || [ ! -f "$to" ] || [ "$(cat "$to.sum" 2>/dev/null)" != "$sum" ] || exit 0
 
 mkdir -p "$(dirname "$to")" || exit 2
@@ -30,4 +30,7 @@ if [ -n "$verb" ] && ! (cd "crates/$crate" && rt "$verb" </dev/null) >target/bui
     exit 1
 fi
 rm -f "$to.sum"
-cp "crates/$crate/out/$built" "$to.new" && mv "$to.new" "$to" && echo "$sum" >"$to.sum"
+cp "crates/$crate/out/$built" "$to.new" || exit 1
+# In the archive each function begins at a cache line, whatever is linked beside it (docs/DECISIONS.md).
+[ "$crate" != border ] || tools/align.sh "$to.new" || exit 1
+mv "$to.new" "$to" && echo "$sum" >"$to.sum"
