@@ -99,7 +99,7 @@ run-test: program
 
 # What the archive is beside the one that `rt lib` built: alignments and no more.
 aligned: archive
-	@tests/aligned.sh crates/border/out/libborder.a target/lib/libroutes.a
+	@tests/aligned.sh target/lib/libroutes.a.built target/lib/libroutes.a
 
 # A copy installed under target/installed, used as anyone would use it.
 installed:

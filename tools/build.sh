@@ -31,6 +31,9 @@ if [ -n "$verb" ] && ! (cd "crates/$crate" && rt "$verb" </dev/null) >target/bui
 fi
 rm -f "$to.sum"
 cp "crates/$crate/out/$built" "$to.new" || exit 1
-# In the archive each function begins at a cache line, whatever is linked beside it (docs/DECISIONS.md).
-[ "$crate" != border ] || tools/align.sh "$to.new" || exit 1
+# In the archive each function begins at a cache line, whatever is linked beside it (docs/DECISIONS.md). As it was built it stays
+# beside, for `make aligned`.
+if [ "$crate" = border ]; then
+    cp "$to.new" "$to.built" && tools/align.sh "$to.new" || exit 1
+fi
 mv "$to.new" "$to" && echo "$sum" >"$to.sum"
